@@ -1,0 +1,9 @@
+pub mod Newest
+pub mod Chains
+pub mod Pasts
+pub mod Counts
+pub mod Traces
+pub mod Sets
+pub mod Relations
+pub mod Columns
+pub mod Worked
