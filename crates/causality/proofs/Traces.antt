@@ -15,10 +15,10 @@ use Rattle.std.proofs.shelf.Ways.{same-from-decides, decides-at}
 use Rattle.causality.specs.declared.Event.{Event}
 use Rattle.causality.specs.Newest.{entry, kth, numbers, Mem}
 use Rattle.causality.specs.Entries.{Entry, is, timeline, past, Follows, Edge, Chain, Chain.one, Chain.more, Reach}
-use Rattle.causality.specs.Traces.{node-of, partner-of, sends, receives, both, from, into, stands, events-at, Next, Message, Link, Before, Orderly, entries, forward, backward, mirror, Past-is-before, Future-is-after, Mirrored, sent, Accepted, Accepted-is-orderly}
+use Rattle.causality.specs.Traces.{node-of, partner-of, sends, receives, both, from, into, stands, events-at, Next, Message, Link, Before, Orderly, entries, forward, backward, mirror, Past-is-before, Future-is-after, Mirrored, was-sent, Accepted, Accepted-is-orderly}
 use Rattle.causality.proofs.Newest.{nothing, entry-head, entry-low, entry-up, entry-cases, entry-some, entry-mem, mem-entry, kth-entry, entry-kth, entry-order, numbers-out, numbers-in, numbers-low, numbers-descend, entry-turned, Descending}
 use Rattle.causality.proofs.Chains.{chain-each, chain-map, chain-turn}
-use Rattle.causality.proofs.Pasts.{past-reach, reach-past, past-is-reach}
+use Rattle.causality.proofs.Pasts.{chain-low, past-reach, reach-past, past-is-reach}
 
 -- ---- entries of a trace
 
@@ -142,6 +142,9 @@ module _ (vs : List Event) (orderly : Orderly vs) where
       flow-edge from vs x y (entry-order c (numbers-descend (λ v. stands v i) vs) (k - 1) (suc k - 1) x y e′ f′ (omega arith), inl (i, entry-mem c _ x e′, entry-mem c _ y f′))
   link-edge x y (inr m) = flow-edge from vs x y (orderly x y m, inr m)
 
+  pub before-rises : (x y : ℕ) → Before vs x y → x < y
+  before-rises x y c = chain-low (forward vs) (chain-map link-edge c) .0
+
   pub past-is-before : (x y : ℕ) → x < length vs → y < length vs → Decides (past (forward vs) y x) ((x ≡ y) ⊎ Before vs x y)
   past-is-before x y lx ly = (
     (λ h. elim (past-reach (forward vs) y x h) [ inl (k, _) ↦ inl k | inr c ↦ inr (chain-each edge-links c) ]),
@@ -164,7 +167,7 @@ one-kind (Event.Send i k) m n e f = nothing f
 one-kind (Event.Receive i k) m n e f = nothing e
 one-kind (Event.Meet i j) m n e f = nothing e
 
-received-sent : (vs : List Event) → Accepted vs → (y : ℕ) (w : Event) (m : ℕ) → entry vs y ≡ Some w → receives w ≡ Some m → sent m vs ≡ true
+received-sent : (vs : List Event) → Accepted vs → (y : ℕ) (w : Event) (m : ℕ) → entry vs y ≡ Some w → receives w ≡ Some m → was-sent vs m ≡ true
 received-sent [] a y w m e h = absurd (nothing e)
 received-sent (v ∷ vs) (_, known, a) y w m e h =
     or-right (is (sends v) m) _ (elim (entry-cases v vs y w e) [ inl (_, same) ↦ known m (ap receives same ∙ h) | inr (_, f) ↦ received-sent vs a y w m f h ])
@@ -176,7 +179,7 @@ accepted-is-orderly (u ∷ vs) (fresh, known, a) x y (v, w, e, f, h) =
     elim (entry-cases u vs x v e) [
       | inl (k, same) ↦ elim (entry-cases u vs y w f) [
         | inl (_, same′) ↦ absurd (one-kind u m m (ap sends same ∙ s) (ap receives same′ ∙ r))
-        | inr (_, f′) ↦ absurd (both-ways (sent m vs) (fresh m (ap sends same ∙ s)) (received-sent vs a y w m f′ r))
+        | inr (_, f′) ↦ absurd (both-ways (was-sent vs m) (fresh m (ap sends same ∙ s)) (received-sent vs a y w m f′ r))
       ]
       | inr (l, e′) ↦ elim (entry-cases u vs y w f) [
         | inl (k, _) ↦ omega arith

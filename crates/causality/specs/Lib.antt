@@ -1,3 +1,4 @@
+pub mod Limits
 pub mod Newest
 pub mod Entries
 pub mod Traces

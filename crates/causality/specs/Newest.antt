@@ -6,11 +6,12 @@
 --   picked f p xs   what f makes of each element that passes p and of the elements older than it
 --   numbers p xs    the numbers of the elements that pass p
 --   tally p xs      how many elements pass p
+--   has p xs        some element passes p
 --   Any P xs        P holds of some element (All, of each, is the library's)
 --   Mem x xs        x is an element
 use mathlib.Core.Path.{_≡_}
 use mathlib.Core.List.{List, [], _∷_}
-use mathlib.Core.Bool.{Bool, cond}
+use mathlib.Core.Bool.{Bool, false, cond, _||_}
 use mathlib.Core.Logic.{_⊎_}
 use Prim.Native.Nat.{ℕ, suc, _-_}
 use lib.Dec.{eqb}
@@ -35,6 +36,10 @@ numbers p xs = picked (λ _ older. length older) p xs
 abbrev pub tally : {X : Type 0} → (X → Bool) → List X → ℕ
 tally p [] = 0
 tally p (x ∷ xs) = cond (p x) (suc (tally p xs)) (tally p xs)
+
+abbrev pub has : {X : Type 0} → (X → Bool) → List X → Bool
+has p [] = false
+has p (x ∷ xs) = p x || has p xs
 
 abbrev pub Any : {X : Type 0} → (X → Type 0) → List X → Type 0
 Any P [] = ⊥

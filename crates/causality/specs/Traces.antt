@@ -23,7 +23,7 @@ use Rattle.std.specs.Orderings.{Decides}
 use Rattle.std.specs.declared.option.Option.{Option}
 use Rattle.std.specs.declared.option.Option.the-variants.{Some, None}
 use Rattle.causality.specs.declared.Event.{Event}
-use Rattle.causality.specs.Newest.{entry, kth, numbers}
+use Rattle.causality.specs.Newest.{entry, kth, numbers, has}
 use Rattle.causality.specs.Entries.{Entry, is, at-either, past, Chain}
 
 abbrev pub node-of : Event → ℕ
@@ -122,15 +122,14 @@ Mirrored =
 
 -- ---- a check of each event against the earlier ones
 
-abbrev pub sent : ℕ → List Event → Bool
-sent m [] = false
-sent m (v ∷ vs) = is (sends v) m || sent m vs
+abbrev pub was-sent : List Event → ℕ → Bool
+was-sent vs m = has (λ v. is (sends v) m) vs
 
 -- no message is sent twice, and none is received unless it was sent
 abbrev pub Accepted : List Event → Type 0
 Accepted [] = Unit {0}
 Accepted (v ∷ vs) =
-    ((m : ℕ) → sends v ≡ Some m → sent m vs ≡ false) × ((m : ℕ) → receives v ≡ Some m → sent m vs ≡ true) × Accepted vs
+    ((m : ℕ) → sends v ≡ Some m → was-sent vs m ≡ false) × ((m : ℕ) → receives v ≡ Some m → was-sent vs m ≡ true) × Accepted vs
 
 abbrev pub Accepted-is-orderly : Type 0
 Accepted-is-orderly = (vs : List Event) → Accepted vs → Orderly vs

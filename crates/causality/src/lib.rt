@@ -5,6 +5,11 @@
 
 pub mod theorems;
 
+/// The most nodes of a trace.
+pub const MAX_NODES: u16 = 16;
+/// The most events of a trace.
+pub const MAX_EVENTS: u16 = 512;
+
 /// The k-th event of a node's column, counted from 1: `node.index`.
 #[derive(Clone, Copy, PartialEq, Eq, Debug)]
 pub struct Place {

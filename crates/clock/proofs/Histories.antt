@@ -1,0 +1,138 @@
+-- What a history means to a clock is what the causal theory says of it.
+use mathlib.Core.Path.{_≡_, refl, sym, _∙_, ap, ap₂, subst, fun-ext}
+use mathlib.Core.List.{List, [], _∷_, _++_}
+use mathlib.Core.Bool.{Bool, true, false, cond, _&&_, _||_, Bool-set}
+use mathlib.Core.Logic.{_⊎_, inl, inr, ∥∥₁-elim, _↔_}
+use Prim.Native.Nat.{ℕ, suc, _<_, _≤_}
+use native.Mathlib.Bridge.{le-prop}
+use native.Mathlib.Omega.{arith}
+use lib.Dec.{eqb, ltb}
+use lib.ListN.{length}
+use Rattle.std.specs.Vec.{listOf}
+use Rattle.std.specs.declared.option.Option.{Option}
+use Rattle.std.specs.declared.option.Option.the-variants.{Some, None}
+use Rattle.std.proofs.shelf.Tests.{cases-bool, eqb-true, lt-ltb, cond-true, cond-false}
+use Rattle.causality.specs.Newest.{entry, Mem}
+use Rattle.causality.specs.Entries.{Entry, at-either, timeline, newest, latest, predecessors, in-some, past, at, stamp}
+use Rattle.causality.proofs.Newest.{nothing, entry-head, entry-tail}
+use Rattle.causality.proofs.Pasts.{at-low, past-tail, past-head, past-reach, reach-past, pasts-lawful}
+use Rattle.causality.proofs.Counts.{stamps-tell}
+use Rattle.causality.specs.Limits.{is-node}
+use Rattle.clock.specs.Meaning.{Held, Meaning, held-at, within, latest-held, held-before, next-past, if-given, accepts, taken, number, Laws}
+use Rattle.clock.specs.Histories.{entries-of, meaning, Meanings-grow, Meanings-answer, Meanings-lawful, Counts-are-chains}
+use Rattle.clock.specs.Arrays.{listed}
+
+pub length-entries : (ts : List Entry) → length (entries-of ts) ≡ length ts
+length-entries [] = refl
+length-entries (t ∷ ts) = ap suc (length-entries ts)
+
+pub held-timeline : (ts : List Entry) (i : ℕ) → held-at (entries-of ts) i ≡ timeline ts i
+held-timeline [] i = refl
+held-timeline (t ∷ ts) i =
+    elim (cases-bool (at-either (t .node) (t .partner) i)) [
+      | inl s ↦ rw (s, length-entries ts, held-timeline ts i)
+      | inr s ↦ rw (s, held-timeline ts i)
+    ]
+
+latest-same : (ts : List Entry) (o : Option ℕ) → latest-held (entries-of ts) o ≡ latest ts o
+latest-same ts None = refl
+latest-same ts (Some i) = ap newest (held-timeline ts i)
+
+before-same : (t : Entry) (ts : List Entry) → held-before t (entries-of ts) ≡ predecessors t ts
+before-same t ts =
+    ap₂ (λ (o p : Option ℕ). listOf o ++ (listOf p ++ t .priors)) (latest-same ts (Some (t .node))) (latest-same ts (t .partner))
+
+pub within-past : (ts : List Entry) (e x : ℕ) → within (entries-of ts) e x ≡ past ts e x
+within-past [] e x = refl
+within-past (t ∷ ts) e x =
+    elim (cases-bool (eqb e (length ts))) [
+      | inl s ↦
+          let k : e ≡ length ts = eqb-true e (length ts) s in
+          let same : within (entries-of ts) ≡ past ts = fun-ext (λ d. fun-ext (λ y. within-past ts d y)) in
+          rw (length-entries ts, s, k, same, before-same t ts)
+      | inr s ↦ rw (length-entries ts, s) (within-past ts e x)
+    ]
+
+within-is : (ts : List Entry) → within (entries-of ts) ≡ past ts
+within-is ts = fun-ext (λ e. fun-ext (λ x. within-past ts e x))
+
+-- ---- the four laws
+
+pub meanings-lawful : Meanings-lawful
+meanings-lawful n ts =
+    let laws = pasts-lawful ts in
+    record {
+      own = λ e l. rw (within-is ts) (laws .own e (omega (arith, length-entries ts)));
+      through = rw (within-is ts) (laws .through);
+      earliest = λ e x y i. rw (within-is ts, held-timeline ts i) (laws .earliest e x y i);
+      no-higher = λ e x h. laws .no-higher e x (rw (within-is ts) at h) .0;
+    }
+
+-- s is the meaning of some history
+abbrev pub Of-history : Meaning → Type 0
+Of-history s = ∥ ((n : ℕ) × (ts : List Entry) × (s ≡ meaning n ts)) ∥₁
+
+pub history-lawful : (s : Meaning) → Of-history s → Laws s
+history-lawful s of =
+    let laws : (n : ℕ) (ts : List Entry) → s ≡ meaning n ts → Laws s = λ n ts same. subst Laws (sym same) (meanings-lawful n ts) in
+    record {
+      own = λ e l. ∥∥₁-elim of (Bool-set _ _) (λ (n, ts, same). laws n ts same .own e l);
+      through = λ e y x h k. ∥∥₁-elim of (Bool-set _ _) (λ (n, ts, same). laws n ts same .through e y x h k);
+      earliest = λ e x y i h p q l. ∥∥₁-elim of (Bool-set _ _) (λ (n, ts, same). laws n ts same .earliest e x y i h p q l);
+      no-higher = λ e x h. ∥∥₁-elim of le-prop (λ (n, ts, same). laws n ts same .no-higher e x h);
+    }
+
+-- ---- takes and answers
+
+pub taken-refused : (s : Meaning) (a : ℕ) (b m : Option ℕ) → accepts s a b m ≡ false → (s ≡ taken s a b m) × (None ≡ number s a b m)
+taken-refused s a b m off = (sym (cond-false _ _ _ off), sym (cond-false _ _ _ off))
+
+pub meanings-grow : Meanings-grow
+meanings-grow n ts a b m ok = (cond-true _ _ _ ok, cond-true _ _ _ ok ∙ ap Some (length-entries ts))
+
+pub meanings-answer : Meanings-answer
+meanings-answer n ts e i k = (rw (length-entries ts, within-is ts, held-timeline ts i), rw (held-timeline ts i))
+
+some-of : {X : Type 0} (b : Bool) (o : Option X) (x : X) → cond b o None ≡ Some x → o ≡ Some x
+some-of true o x h = h
+some-of false o x h = absurd (nothing h)
+
+pub counts-are-chains : Counts-are-chains
+counts-are-chains n ts i k x e c f h =
+    let (count, place) = meanings-answer n ts e i k in
+    let it : at ts i k ≡ Some x = some-of (is-node n i) (at ts i k) x (sym place ∙ f) in
+    let full : _≡_ {A = Option ℕ} (Some (stamp ts e i)) (Some c) =
+    some-of (ltb e (length ts) && is-node n i) (Some (stamp ts e i)) c (sym count ∙ h) in
+    let same : stamp ts e i ≡ c = cc in
+    let (out, back) = stamps-tell ts e i k x it in
+    ((λ l. past-reach ts e x (back (omega arith))), λ r. omega (arith, out (reach-past ts e x r)))
+
+-- ---- the entries of a history, one by one
+
+-- v is entry e of the history ts
+abbrev pub Holds : List Entry → ℕ → Held → Type 0
+Holds ts e v =
+    (priors : List ℕ) × (entry ts e ≡ Some (record { node = v .node; partner = v .partner; priors = priors })) × ((x : ℕ) → v .past x ≡ past ts e x)
+
+pub entries-held : (ts : List Entry) (f : ℕ → Held) → ((e : ℕ) → e < length ts → Holds ts e (f e)) → listed f (length ts) ≡ entries-of ts
+entries-held [] f h = refl
+entries-held (t ∷ ts) f h =
+    let (priors, is, past-is) = h (length ts) (omega arith) in
+    let same : record { node = f (length ts) .node; partner = f (length ts) .partner; priors = priors } ≡ t = cc (entry-head t ts) in
+    let p : f (length ts) .node ≡ t .node = ap (λ (u : Entry). u .node) same in
+    let q : f (length ts) .partner ≡ t .partner = ap (λ (u : Entry). u .partner) same in
+    let r : (x : ℕ) → f (length ts) .past x ≡ next-past t (entries-of ts) x =
+    λ x. past-is x ∙ past-head t ts x ∙ rw (length-entries ts, within-is ts, before-same t ts) in
+    let older : (e : ℕ) → e < length ts → Holds ts e (f e) =
+    λ e l. let (ps, it, pasts) = h e (omega arith) in (ps, sym (entry-tail t ts e l) ∙ it, λ x. pasts x ∙ past-tail t ts e x (omega arith)) in
+    ap₂ (λ (v : Held) (vs : List Held). v ∷ vs) (λ i. record { node = p i; partner = q i; past = λ x. r x i }) (entries-held ts f older)
+
+-- ---- the latest entry at a node
+
+pub latest-low : (ts : List Entry) (o : Option ℕ) → if-given (λ x. ltb x (length ts)) (latest ts o) ≡ true
+latest-low ts None = refl
+latest-low ts (Some i) = newest-low (timeline ts i) (λ x m. at-low ts x i m)
+  where
+    newest-low : (c : List ℕ) → ((x : ℕ) → Mem x c → x < length ts) → if-given (λ x. ltb x (length ts)) (newest c) ≡ true
+    newest-low [] h = refl
+    newest-low (z ∷ zs) h = lt-ltb z (length ts) (h z (inl refl))

@@ -1,0 +1,5 @@
+use Rattle.clock.proofs.Histories.{counts-are-chains}
+use Rattle.clock.proofs.counts_are_chains.Needs as need
+
+pub returns : need.returns
+returns c = counts-are-chains

@@ -1,0 +1,5 @@
+use Rattle.clock.proofs.Histories.{meanings-answer}
+use Rattle.clock.proofs.meanings_answer.Needs as need
+
+pub returns : need.returns
+returns c = meanings-answer

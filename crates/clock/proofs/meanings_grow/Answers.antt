@@ -1,0 +1,5 @@
+use Rattle.clock.proofs.Histories.{meanings-grow}
+use Rattle.clock.proofs.meanings_grow.Needs as need
+
+pub returns : need.returns
+returns c = meanings-grow

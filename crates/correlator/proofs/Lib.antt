@@ -1,0 +1,4 @@
+pub mod Kept
+pub mod Posts
+pub mod Events
+pub mod Questions
