@@ -1,17 +1,16 @@
--- Arrays that grow by one element, places of nodes in an array, and what an accepted take comes to.
-use mathlib.Core.Path.{_≡_, refl, sym, _∙_, ap}
-use mathlib.Core.List.{List, [], _∷_}
-use mathlib.Core.Bool.{Bool, true, false, cond, not, _&&_}
-use mathlib.Core.Logic.{_⊎_, inl, inr, _≢_}
-use Prim.Native.Nat.{ℕ, zero, suc, _+_, _-_, _<_, _≤_}
-use native.Mathlib.Numerals.{add-one}
+-- The first elements of an array, and what an accepted take comes to.
+use mathlib.Core.Path.{_≡_, refl, ap}
+use mathlib.Core.List.{List, _∷_}
+use mathlib.Core.Bool.{Bool, true, false, not}
+use mathlib.Core.Logic.{_≢_}
+use Prim.Native.Nat.{ℕ, zero, suc, _<_, _≤_}
 use native.Mathlib.Omega.{arith}
-use lib.Dec.{eqb, leb, ltb}
+use lib.Dec.{ltb}
 use lib.ListN.{length, getD, set}
 use Rattle.std.specs.declared.option.Option.{Option}
 use Rattle.std.specs.declared.option.Option.the-variants.{Some, None}
 use Rattle.std.proofs.shelf.Lists.{getD-set-same, getD-set-other}
-use Rattle.std.proofs.shelf.Tests.{cases-bool, and-parts, and-from, not-true, ltb-true, leb-true, le-leb, eqb-true, eqb-false}
+use Rattle.std.proofs.shelf.Tests.{and-parts, and-from, not-true, ltb-true, leb-true, le-leb}
 use Rattle.causality.specs.Entries.{is}
 use Rattle.causality.specs.Limits.{max-nodes, is-node}
 use Rattle.clock.specs.Meaning.{max-entries, if-given, admits}
@@ -34,23 +33,12 @@ pub listed-set : {X Y : Type 0} (f : X → Y) (xs : List X) (d x : X) (k : ℕ) 
 listed-set f xs d x k l =
     rw (getD-set-same xs k x d l, listed-like (λ e. f (getD (set xs k x) e d)) (λ e. f (getD xs e d)) k (λ e h. let ne : e ≢ k = omega arith in ap f (getD-set-other xs k e x d ne)))
 
--- ---- nodes, whose places in an array are one less
+-- ---- what an accepted take comes to
 
 pub node-bounds : (n i : ℕ) → is-node n i ≡ true → (1 ≤ i) × (i ≤ n)
 node-bounds n i h = let (p, q) = and-parts _ _ h in (leb-true 1 i p, leb-true i n q)
 
-pub getD-set-node : {X : Type 0} (xs : List X) (i j : ℕ) (x d : X) → is-node (length xs) i ≡ true → 1 ≤ j →
-    getD (set xs (i - 1) x) (j - 1) d ≡ cond (eqb i j) x (getD xs (j - 1) d)
-getD-set-node xs i j x d h l =
-    let (p, q) = node-bounds (length xs) i h in
-    elim (cases-bool (eqb i j)) [
-      | inl s ↦ let same : i ≡ j = eqb-true i j s in rw (s, same) (getD-set-same xs (j - 1) x d (omega arith))
-      | inr s ↦ let far = eqb-false i j s in let ne : j - 1 ≢ i - 1 = λ k. far (omega arith) in rw s (getD-set-other xs (i - 1) (j - 1) x d ne)
-    ]
-
--- ---- what an accepted take comes to
-
-node-up : (n i : ℕ) → n ≤ max-nodes → is-node n i ≡ true → is-node max-nodes i ≡ true
+pub node-up : (n i : ℕ) → n ≤ max-nodes → is-node n i ≡ true → is-node max-nodes i ≡ true
 node-up n i h k = let (p, q) = node-bounds n i k in and-from _ _ (le-leb 1 i p) (le-leb i max-nodes (omega arith))
 
 pub given-up : (p q : ℕ → Bool) → ((i : ℕ) → p i ≡ true → q i ≡ true) → (o : Option ℕ) → if-given p o ≡ true → if-given q o ≡ true

@@ -1,9 +1,9 @@
 -- What a history means to a clock is what the causal theory says of it.
 use mathlib.Core.Path.{_≡_, refl, sym, _∙_, ap, ap₂, subst, fun-ext}
 use mathlib.Core.List.{List, [], _∷_, _++_}
-use mathlib.Core.Bool.{Bool, true, false, cond, _&&_, _||_, Bool-set}
-use mathlib.Core.Logic.{_⊎_, inl, inr, ∥∥₁-elim, _↔_}
-use Prim.Native.Nat.{ℕ, suc, _<_, _≤_}
+use mathlib.Core.Bool.{Bool, true, false, cond, _&&_, Bool-set}
+use mathlib.Core.Logic.{inl, inr, ∥∥₁-elim}
+use Prim.Native.Nat.{ℕ, suc, _<_}
 use native.Mathlib.Bridge.{le-prop}
 use native.Mathlib.Omega.{arith}
 use lib.Dec.{eqb, ltb}
@@ -11,15 +11,15 @@ use lib.ListN.{length}
 use Rattle.std.specs.Vec.{listOf}
 use Rattle.std.specs.declared.option.Option.{Option}
 use Rattle.std.specs.declared.option.Option.the-variants.{Some, None}
-use Rattle.std.proofs.shelf.Tests.{cases-bool, eqb-true, lt-ltb, cond-true, cond-false}
-use Rattle.causality.specs.Newest.{entry, Mem}
-use Rattle.causality.specs.Entries.{Entry, at-either, timeline, newest, latest, predecessors, in-some, past, at, stamp}
+use Rattle.std.proofs.shelf.Tests.{cases-bool, eqb-true, lt-ltb, cond-true}
+use Rattle.causality.specs.Newest.{entry, tally, Mem}
+use Rattle.causality.specs.Entries.{Entry, at-either, timeline, newest, latest, predecessors, past, at, stamp}
 use Rattle.causality.proofs.Newest.{nothing, entry-head, entry-tail}
 use Rattle.causality.proofs.Pasts.{at-low, past-tail, past-head, past-reach, reach-past, pasts-lawful}
 use Rattle.causality.proofs.Counts.{stamps-tell}
 use Rattle.causality.specs.Limits.{is-node}
-use Rattle.clock.specs.Meaning.{Held, Meaning, held-at, within, latest-held, held-before, next-past, if-given, accepts, taken, number, Laws}
-use Rattle.clock.specs.Histories.{entries-of, meaning, Meanings-grow, Meanings-answer, Meanings-lawful, Counts-are-chains}
+use Rattle.clock.specs.Meaning.{Held, Meaning, held-at, within, latest-held, held-before, next-past, asked, if-given, admits, with-entry, taken, number, counted, Laws}
+use Rattle.clock.specs.Histories.{entries-of, Meanings-grow, Meanings-answer, Meanings-lawful, Counts-are-chains}
 use Rattle.clock.specs.Arrays.{listed}
 
 pub length-entries : (ts : List Entry) → length (entries-of ts) ≡ length ts
@@ -42,19 +42,15 @@ before-same : (t : Entry) (ts : List Entry) → held-before t (entries-of ts) �
 before-same t ts =
     ap₂ (λ (o p : Option ℕ). listOf o ++ (listOf p ++ t .priors)) (latest-same ts (Some (t .node))) (latest-same ts (t .partner))
 
-pub within-past : (ts : List Entry) (e x : ℕ) → within (entries-of ts) e x ≡ past ts e x
-within-past [] e x = refl
-within-past (t ∷ ts) e x =
-    elim (cases-bool (eqb e (length ts))) [
-      | inl s ↦
-          let k : e ≡ length ts = eqb-true e (length ts) s in
-          let same : within (entries-of ts) ≡ past ts = fun-ext (λ d. fun-ext (λ y. within-past ts d y)) in
-          rw (length-entries ts, s, k, same, before-same t ts)
-      | inr s ↦ rw (length-entries ts, s) (within-past ts e x)
-    ]
-
 within-is : (ts : List Entry) → within (entries-of ts) ≡ past ts
-within-is ts = fun-ext (λ e. fun-ext (λ x. within-past ts e x))
+within-is [] = refl
+within-is (t ∷ ts) = fun-ext (λ e. fun-ext (λ x. elim (cases-bool (eqb e (length ts))) [
+  | inl s ↦ let k : e ≡ length ts = eqb-true e (length ts) s in rw (length-entries ts, s, k, within-is ts, before-same t ts)
+  | inr s ↦ rw (length-entries ts, s, within-is ts)
+]))
+
+pub next-past-is : (t : Entry) (ts : List Entry) (x : ℕ) → next-past t (entries-of ts) x ≡ past (t ∷ ts) (length ts) x
+next-past-is t ts x = rw (length-entries ts, within-is ts, before-same t ts) (sym (past-head t ts x))
 
 -- ---- the four laws
 
@@ -68,30 +64,44 @@ meanings-lawful n ts =
       no-higher = λ e x h. laws .no-higher e x (rw (within-is ts) at h) .0;
     }
 
--- s is the meaning of some history
+-- s holds the entries of some history
 abbrev pub Of-history : Meaning → Type 0
-Of-history s = ∥ ((n : ℕ) × (ts : List Entry) × (s ≡ meaning n ts)) ∥₁
+Of-history s = ∥ ((ts : List Entry) × (s .entries ≡ entries-of ts)) ∥₁
 
 pub history-lawful : (s : Meaning) → Of-history s → Laws s
 history-lawful s of =
-    let laws : (n : ℕ) (ts : List Entry) → s ≡ meaning n ts → Laws s = λ n ts same. subst Laws (sym same) (meanings-lawful n ts) in
+    let laws : (ts : List Entry) → s .entries ≡ entries-of ts → Laws s =
+    λ ts same. subst Laws (λ i. record { nodes = s .nodes; entries = sym same i }) (meanings-lawful (s .nodes) ts) in
     record {
-      own = λ e l. ∥∥₁-elim of (Bool-set _ _) (λ (n, ts, same). laws n ts same .own e l);
-      through = λ e y x h k. ∥∥₁-elim of (Bool-set _ _) (λ (n, ts, same). laws n ts same .through e y x h k);
-      earliest = λ e x y i h p q l. ∥∥₁-elim of (Bool-set _ _) (λ (n, ts, same). laws n ts same .earliest e x y i h p q l);
-      no-higher = λ e x h. ∥∥₁-elim of le-prop (λ (n, ts, same). laws n ts same .no-higher e x h);
+      own = λ e l. ∥∥₁-elim of (Bool-set _ _) (λ (ts, same). laws ts same .own e l);
+      through = λ e y x h k. ∥∥₁-elim of (Bool-set _ _) (λ (ts, same). laws ts same .through e y x h k);
+      earliest = λ e x y i h p q l. ∥∥₁-elim of (Bool-set _ _) (λ (ts, same). laws ts same .earliest e x y i h p q l);
+      no-higher = λ e x h. ∥∥₁-elim of le-prop (λ (ts, same). laws ts same .no-higher e x h);
     }
 
 -- ---- takes and answers
 
-pub taken-refused : (s : Meaning) (a : ℕ) (b m : Option ℕ) → accepts s a b m ≡ false → (s ≡ taken s a b m) × (None ≡ number s a b m)
-taken-refused s a b m off = (sym (cond-false _ _ _ off), sym (cond-false _ _ _ off))
+module _ (s : Meaning) (len : ℕ) (size : length (s .entries) ≡ len) where
+  pub take-refused : (a : ℕ) (b m : Option ℕ) → false ≡ admits (s .nodes) len a b m → (s ≡ taken s a b m) × (None ≡ number s a b m)
+  take-refused a b m h = rw (size, ← h) (refl, refl)
+
+  pub take-accepted : (a : ℕ) (b m : Option ℕ) → true ≡ admits (s .nodes) len a b m → (with-entry s (asked a b m) ≡ taken s a b m) × (Some len ≡ number s a b m)
+  take-accepted a b m h = rw (size, ← h) (refl, refl)
+
+  pub count-absent : (e i : ℕ) → false ≡ (ltb e len && is-node (s .nodes) i) → None ≡ counted s e i
+  count-absent e i h = rw (size, ← h)
+
+  pub count-present : (e i : ℕ) → true ≡ (ltb e len && is-node (s .nodes) i) → Some (tally (within (s .entries) e) (held-at (s .entries) i)) ≡ counted s e i
+  count-present e i h = rw (size, ← h)
+
+pub tally-stamp : (ts : List Entry) (e i : ℕ) → tally (within (entries-of ts) e) (held-at (entries-of ts) i) ≡ stamp ts e i
+tally-stamp ts e i = rw (within-is ts, held-timeline ts i)
 
 pub meanings-grow : Meanings-grow
 meanings-grow n ts a b m ok = (cond-true _ _ _ ok, cond-true _ _ _ ok ∙ ap Some (length-entries ts))
 
 pub meanings-answer : Meanings-answer
-meanings-answer n ts e i k = (rw (length-entries ts, within-is ts, held-timeline ts i), rw (held-timeline ts i))
+meanings-answer n ts e i k = (rw (length-entries ts, tally-stamp ts e i), rw (held-timeline ts i))
 
 some-of : {X : Type 0} (b : Bool) (o : Option X) (x : X) → cond b o None ≡ Some x → o ≡ Some x
 some-of true o x h = h
@@ -121,8 +131,7 @@ entries-held (t ∷ ts) f h =
     let same : record { node = f (length ts) .node; partner = f (length ts) .partner; priors = priors } ≡ t = cc (entry-head t ts) in
     let p : f (length ts) .node ≡ t .node = ap (λ (u : Entry). u .node) same in
     let q : f (length ts) .partner ≡ t .partner = ap (λ (u : Entry). u .partner) same in
-    let r : (x : ℕ) → f (length ts) .past x ≡ next-past t (entries-of ts) x =
-    λ x. past-is x ∙ past-head t ts x ∙ rw (length-entries ts, within-is ts, before-same t ts) in
+    let r : (x : ℕ) → f (length ts) .past x ≡ next-past t (entries-of ts) x = λ x. past-is x ∙ sym (next-past-is t ts x) in
     let older : (e : ℕ) → e < length ts → Holds ts e (f e) =
     λ e l. let (ps, it, pasts) = h e (omega arith) in (ps, sym (entry-tail t ts e l) ∙ it, λ x. pasts x ∙ past-tail t ts e x (omega arith)) in
     ap₂ (λ (v : Held) (vs : List Held). v ∷ vs) (λ i. record { node = p i; partner = q i; past = λ x. r x i }) (entries-held ts f older)

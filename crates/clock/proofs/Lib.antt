@@ -1,3 +1,2 @@
 pub mod Histories
 pub mod Arrays
-pub mod Sets

@@ -89,8 +89,11 @@ accepts s a b m = admits (s .nodes) (length (s .entries)) a b m
 abbrev pub begun : Meaning → ℕ → Meaning
 begun s n = cond (begins n) (blank n) s
 
+abbrev pub with-entry : Meaning → Entry → Meaning
+with-entry s t = record { nodes = s .nodes; entries = appended t (s .entries) }
+
 abbrev pub taken : Meaning → ℕ → Option ℕ → Option ℕ → Meaning
-taken s a b m = cond (accepts s a b m) (record { nodes = s .nodes; entries = appended (asked a b m) (s .entries) }) s
+taken s a b m = cond (accepts s a b m) (with-entry s (asked a b m)) s
 
 abbrev pub number : Meaning → ℕ → Option ℕ → Option ℕ → Option ℕ
 number s a b m = cond (accepts s a b m) (Some (length (s .entries))) None

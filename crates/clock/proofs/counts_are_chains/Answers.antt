@@ -1,3 +1,4 @@
+-- Counts tell which entries chains lead to.
 use Rattle.clock.proofs.Histories.{counts-are-chains}
 use Rattle.clock.proofs.counts_are_chains.Needs as need
 

@@ -1,3 +1,4 @@
+-- Answers are the timestamps and places of the history.
 use Rattle.clock.proofs.Histories.{meanings-answer}
 use Rattle.clock.proofs.meanings_answer.Needs as need
 

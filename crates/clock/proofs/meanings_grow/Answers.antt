@@ -1,3 +1,4 @@
+-- An accepted take is one more entry.
 use Rattle.clock.proofs.Histories.{meanings-grow}
 use Rattle.clock.proofs.meanings_grow.Needs as need
 

@@ -1,3 +1,4 @@
+-- The four laws hold of every history.
 use Rattle.clock.proofs.Histories.{meanings-lawful}
 use Rattle.clock.proofs.meanings_lawful.Needs as need
 

@@ -1,0 +1,9 @@
+use borrow.Author.Needs.{needs}
+use Rattle.answer_lines.proofs.Writes.{wrote-then}
+use Rattle.answer_lines.proofs.put_refused.Needs as need
+
+pub returns : need.returns
+returns c = record {
+  wrote = wrote-then _ _ (c .put-field-at .ensures .wrote) (wrote-then _ _ (c .put-field-at-2 .ensures .wrote) (c .put-byte .ensures));
+  room = search needs;
+}

@@ -1,0 +1,5 @@
+pub mod Clear
+pub mod Counts
+pub mod Cuts
+pub mod Texts
+pub mod Verdict
