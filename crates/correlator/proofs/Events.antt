@@ -17,7 +17,7 @@ use Rattle.causality.specs.declared.Place.{Place}
 use Rattle.causality.specs.Limits.{is-node}
 use Rattle.causality.specs.Newest.{numbers, tally, Mem}
 use Rattle.causality.specs.Entries.{Entry, timeline, stamp}
-use Rattle.causality.specs.Traces.{node-of, partner-of, from, stands, forward}
+use Rattle.causality.specs.Traces.{node-of, partner-of, from, stands, entries, forward}
 use Rattle.causality.specs.Columns.{next-index}
 use Rattle.causality.proofs.Newest.{numbers-low, length-picked}
 use Rattle.causality.proofs.Counts.{stamps-grow}
@@ -29,7 +29,7 @@ use Rattle.history.specs.declared.refusal.Refusal.{Refusal}
 use Rattle.history.specs.History.{History, is-closed, is-none}
 use Rattle.history.specs.Calls.{Call, refusal, after, with-event}
 use Rattle.history.specs.Answers.{Obeys, next-place}
-use Rattle.history.specs.Lawful.{Lawful}
+use Rattle.history.specs.Lawful.{Fits, Lawful}
 use Rattle.history.proofs.Lawful.{May, may-lawful}
 use Rattle.correlator.specs.declared.state.Correlator.{Correlator}
 use Rattle.correlator.specs.State.{history, fed, fed-back, or-zero, Sound, Appended}
@@ -39,18 +39,20 @@ held-low : (p : Event → Bool) (vs : List Event) (m : Option ℕ) → listOf m 
 held-low p vs None e = refl
 held-low p vs (Some x) e = lt-ltb x (length vs) (numbers-low p vs x (subst (Mem x) e (inl refl)))
 
+-- a clock that took some events of a trace, in whatever direction, accepts the next one
+pub taken-entry : (n : ℕ) (goes : Event → Event → Bool) (v : Event) (vs : List Event) (m : Option ℕ) → Fits n v → length vs < 512 → listOf m ≡ numbers (goes v) vs →
+    taken (meaning n (entries goes vs)) (node-of v) (partner-of v) m ≡ meaning n (entries goes (v ∷ vs))
+taken-entry n goes v vs m fits room priors =
+    let long = length-held (entries goes vs) ∙ length-entries goes vs in
+    let low = held-low (goes v) vs m priors in
+    meanings-grow n (entries goes vs) (node-of v) (partner-of v) m
+    (and-from _ _ (lt-ltb _ 512 (omega (arith, long, room)))
+    (and-from _ _ (fits .here) (and-from _ _ (fits .there) (and-from _ _ (not-from-false _ (fits .apart)) (rw long low))))) .0
+    ∙ ap (λ (ps : List ℕ). meaning n (record { node = node-of v; partner = partner-of v; priors = ps } ∷ entries goes vs)) priors
+
 module _ (h : History) (v : Event) (may : May h v) where
-  -- the forward clock accepts it, as the next event of the trace
   takes-it : (m : Option ℕ) → listOf m ≡ numbers (from v) (h .events) → taken (fed h) (node-of v) (partner-of v) m ≡ fed (with-event h v)
-  takes-it m priors =
-      let vs = h .events in
-      let long = length-held (forward vs) ∙ length-entries from vs in
-      let low = held-low (from v) vs m priors in
-      let fits = may .fits in
-      meanings-grow (h .nodes) (forward vs) (node-of v) (partner-of v) m
-      (and-from _ _ (lt-ltb _ 512 (omega (arith, long, leb-false 512 (length vs) (may .room))))
-      (and-from _ _ (fits .here) (and-from _ _ (fits .there) (and-from _ _ (not-from-false _ (fits .apart)) (rw long low))))) .0
-      ∙ ap (λ (ps : List ℕ). meaning (h .nodes) (record { node = node-of v; partner = partner-of v; priors = ps } ∷ forward vs)) priors
+  takes-it m priors = taken-entry (h .nodes) from v (h .events) m (may .fits) (leb-false 512 (length (h .events)) (may .room)) priors
 
   -- and counts it behind all events of its node
   new-index : or-zero (counted (fed (with-event h v)) (length (h .events)) (node-of v)) ≡ next-index (h .events) (node-of v)

@@ -56,11 +56,11 @@ has-stronger p q h (v ∷ vs) e =
     let (a, b) = or-parts (p v) (has p vs) e in
     or-from (q v) (has q vs) (elim (cases-bool (q v)) [ inl t ↦ absurd (both-ways (p v) a (h v t)) | inr t ↦ t ]) (has-stronger p q h vs b)
 
-is-some : (o : Option ℕ) (m : ℕ) → is o m ≡ true → o ≡ Some m
+pub is-some : (o : Option ℕ) (m : ℕ) → is o m ≡ true → o ≡ Some m
 is-some None m e = absurd (false≢true e)
 is-some (Some k) m e = ap Some (eqb-true k m e)
 
-sends-only : (v : Event) (m : ℕ) → is (sends v) m ≡ true → is (receives v) m ≡ false
+pub sends-only : (v : Event) (m : ℕ) → is (sends v) m ≡ true → is (receives v) m ≡ false
 sends-only (Event.Local i) m e = refl
 sends-only (Event.Send i k) m e = refl
 sends-only (Event.Receive i k) m e = absurd (false≢true e)
@@ -71,10 +71,10 @@ received-sent [] m a e = absurd (false≢true e)
 received-sent (v ∷ vs) m (_, known, a) e =
     or-right (is (sends v) m) _ (elim (or-cases (is (receives v) m) (was-received vs m) e) [ inl t ↦ known m (is-some (receives v) m t) | inr t ↦ received-sent vs m a t ])
 
-unreceived : (vs : List Event) (m : ℕ) → Accepted vs → was-sent vs m ≡ false → was-received vs m ≡ false
+pub unreceived : (vs : List Event) (m : ℕ) → Accepted vs → was-sent vs m ≡ false → was-received vs m ≡ false
 unreceived vs m a s = elim (cases-bool (was-received vs m)) [ inl t ↦ absurd (both-ways (was-sent vs m) s (received-sent vs m a t)) | inr t ↦ t ]
 
-numbers-unsent : (p : Event → Bool) (vs : List Event) → has p vs ≡ false → numbers p vs ≡ []
+pub numbers-unsent : (p : Event → Bool) (vs : List Event) → has p vs ≡ false → numbers p vs ≡ []
 numbers-unsent p [] e = refl
 numbers-unsent p (v ∷ vs) e = let (a, b) = or-parts (p v) (has p vs) e in rw a (numbers-unsent p vs b)
 
@@ -87,6 +87,14 @@ posted-sent (v ∷ vs) m =
       | inl s ↦ rw s refl
       | inr s ↦ ap not (unsent is-none none-received v vs m s) ∙ posted-sent vs m ∙ rw s refl
     ]
+
+-- a message that was sent has a record
+pub posted-known : (vs : List Event) (m : ℕ) → was-sent vs m ≡ true → (s : Sent) × (posted vs m ≡ Some s)
+posted-known vs m h = there (posted vs m) (posted-sent vs m ∙ h)
+  where
+    there : (o : Option Sent) → not (is-none o) ≡ true → (s : Sent) × (o ≡ Some s)
+    there None e = absurd (false≢true e)
+    there (Some s) e = (s, refl)
 
 -- the one event that sends the message
 pub posted-event : (vs : List Event) (m : ℕ) → Accepted vs → listOf (event-of (posted vs m)) ≡ numbers (λ w. is (sends w) m) vs

@@ -55,6 +55,11 @@ pub record Appended {X Y : Type 0} (f : X → Meaning) (c c′ : Correlator X Y)
   pub more : c′ .len ≡ c .len + 1
   pub place : p ≡ record { node = node-of v; index = or-zero (counted (f (c′ .forward)) (c .len) (node-of v)) }
 
+-- a clock that takes some events, the first of them last, each with the entry that `follows` gives
+abbrev pub fed-through : Meaning → (Event → Option ℕ) → List Event → Meaning
+fed-through μ follows [] = μ
+fed-through μ follows (v ∷ vs) = taken (fed-through μ follows vs) (node-of v) (partner-of v) (follows v)
+
 -- the refusals of the event calls as the correlator sees them
 abbrev pub local-tests : {X Y : Type 0} → Correlator X Y → ℕ → List (Bool × Refusal)
 local-tests c a = in-trace (history c) (is-node (c .nodes) a) ((leb max-events (c .len), Refusal.Full) ∷ [])

@@ -9,6 +9,7 @@ use history::Stage;
 use records::Messages;
 
 pub mod checks;
+pub mod closing;
 pub mod events;
 pub mod questions;
 

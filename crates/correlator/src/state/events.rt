@@ -109,7 +109,7 @@ impl<F: Clock, R: Clock> Correlator<F, R> {
     }
 }
 
-fn node_of(event: Event) -> u16
+pub(crate) fn node_of(event: Event) -> u16
     ensures { λ r. ⌜ r ≡ node-of event ⌝ }
 {
     match event {
@@ -120,7 +120,7 @@ fn node_of(event: Event) -> u16
     }
 }
 
-fn partner_of(event: Event) -> Option<u16>
+pub(crate) fn partner_of(event: Event) -> Option<u16>
     ensures { λ r. ⌜ r ≡ partner-of event ⌝ }
 {
     match event {
