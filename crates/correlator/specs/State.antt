@@ -21,7 +21,7 @@ use Rattle.causality.specs.Traces.{node-of, partner-of, forward, backward}
 use Rattle.clock.specs.Meaning.{Meaning, taken, counted, found}
 use Rattle.clock.specs.Histories.{meaning}
 use Rattle.history.specs.declared.refusal.Refusal.{Refusal}
-use Rattle.history.specs.History.{History, is-idle, is-open, is-closed, is-none}
+use Rattle.history.specs.History.{History, no-operations, is-idle, is-open, is-closed, is-none}
 use Rattle.history.specs.Calls.{with-event, in-trace}
 use Rattle.history.specs.Lawful.{Lawful}
 use Rattle.records.specs.Messages.{sent-of}
@@ -29,7 +29,7 @@ use Rattle.correlator.specs.declared.state.Correlator.{Correlator}
 use Rattle.correlator.specs.Posted.{posted, is-received, is-by}
 
 abbrev pub history : {X Y : Type 0} → Correlator X Y → History
-history c = record { stage = c .stage; nodes = c .nodes; events = reverse (take (c .len) (c .events)); operations = [] }
+history c = record { stage = c .stage; nodes = c .nodes; events = reverse (take (c .len) (c .events)); operations = no-operations }
 
 abbrev pub fed : History → Meaning
 fed h = meaning (h .nodes) (forward (h .events))

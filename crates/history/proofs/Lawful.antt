@@ -33,7 +33,7 @@ pub may-lawful : (h : History) (v : Event) → Lawful h → May h v → Lawful (
 may-lawful h v lawful may = record {
   fits = (may .fits, lawful .fits);
   accepted = (may .unsent, may .known, lawful .accepted);
-    once = (may .unreceived, lawful .once);
+  once = (may .unreceived, lawful .once);
   few = omega (arith, leb-false 512 (length (h .events)) (may .room));
   nodes = lawful .nodes;
 }

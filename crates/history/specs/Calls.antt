@@ -16,7 +16,7 @@ use Rattle.causality.specs.Limits.{max-nodes, is-node}
 use Rattle.causality.specs.Traces.{was-sent}
 use Rattle.history.specs.declared.Stage.{Stage}
 use Rattle.history.specs.declared.refusal.Refusal.{Refusal}
-use Rattle.history.specs.History.{Operation, History, is-idle, is-open, is-closed, is-none, was-received, was-sent-by, is-full, named, members-of, is-name, all-named, some-unnamed}
+use Rattle.history.specs.History.{History, no-operations, with-operation, is-idle, is-open, is-closed, is-none, was-received, was-sent-by, is-full, named, members-of, is-name, all-named, some-unnamed}
 
 pub data Call : Type 0 where
   -- a number of nodes
@@ -61,8 +61,8 @@ refusals h (Call.meet a b) =
 refusals h Call.close = (is-idle (h .stage), Refusal.Idle) ∷ (is-closed (h .stage), Refusal.Closed) ∷ []
 refusals h (Call.gather name places) =
     when-closed h
-    ((not (is-name name), Refusal.BadName) ∷ (not (is-none (members-of (h .operations) name)), Refusal.NameTaken)
-    ∷ (leb 32 (length (h .operations)), Refusal.OperationsFull) ∷ (not (leb 1 (length places) && leb (length places) 512), Refusal.PlaceCount)
+    ((not (is-name name), Refusal.BadName) ∷ (not (is-none (members-of h name)), Refusal.NameTaken)
+    ∷ (leb 32 (h .operations .count), Refusal.OperationsFull) ∷ (not (leb 1 (length places) && leb (length places) 512), Refusal.PlaceCount)
     ∷ (some-unnamed h places, Refusal.NoEvent) ∷ [])
 refusals h (Call.order p q) = (is-idle (h .stage), Refusal.Idle) ∷ (is-none (named h p) || is-none (named h q), Refusal.NoEvent) ∷ []
 refusals h (Call.stamp p d len) =
@@ -70,11 +70,11 @@ refusals h (Call.stamp p d len) =
     ∷ (is-none (named h p), Refusal.NoEvent) ∷ (ltb len (h .nodes), Refusal.ShortRow) ∷ []
 refusals h (Call.cut x w len) =
     when-closed h
-    ((is-none (members-of (h .operations) x), Refusal.NoOperation) ∷ (not (leb 1 w && leb w 4), Refusal.BadSelector) ∷ (ltb len (h .nodes), Refusal.ShortRow) ∷ [])
+    ((is-none (members-of h x), Refusal.NoOperation) ∷ (not (leb 1 w && leb w 4), Refusal.BadSelector) ∷ (ltb len (h .nodes), Refusal.ShortRow) ∷ [])
 refusals h (Call.relate r x y) =
     when-closed h
     ((not (leb 1 r && leb r 6), Refusal.BadSelector)
-    ∷ (is-none (members-of (h .operations) x) || is-none (members-of (h .operations) y), Refusal.NoOperation) ∷ [])
+    ∷ (is-none (members-of h x) || is-none (members-of h y), Refusal.NoOperation) ∷ [])
 
 -- the first refusal whose test holds
 abbrev pub first-that : List (Bool × Refusal) → Option Refusal
@@ -90,14 +90,14 @@ abbrev pub with-event : History → Event → History
 with-event h v = record { stage = h .stage; nodes = h .nodes; events = v ∷ h .events; operations = h .operations }
 
 abbrev pub after : History → Call → History
-after h (Call.start n) = record { stage = Stage.Open; nodes = n; events = []; operations = [] }
+after h (Call.start n) = record { stage = Stage.Open; nodes = n; events = []; operations = no-operations }
 after h (Call.local a) = with-event h (Event.Local a)
 after h (Call.send a m) = with-event h (Event.Send a m)
 after h (Call.receive a m) = with-event h (Event.Receive a m)
 after h (Call.meet a b) = with-event h (Event.Meet a b)
 after h Call.close = record { stage = Stage.Closed; nodes = h .nodes; events = h .events; operations = h .operations }
 after h (Call.gather name places) =
-    record { stage = h .stage; nodes = h .nodes; events = h .events; operations = record { name = name; members = all-named h places } ∷ h .operations }
+    record { stage = h .stage; nodes = h .nodes; events = h .events; operations = with-operation (h .operations) name (all-named h places) }
 after h (Call.order p q) = h
 after h (Call.stamp p d len) = h
 after h (Call.cut x w len) = h

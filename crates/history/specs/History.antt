@@ -1,11 +1,11 @@
 -- The state that the calls leave: idle, open or closed; the number of nodes; the events in the order accepted, newest first;
--- the operations, newest first, each a name with its member events.
+-- how many operations there are, and the member events of each by its name.
 --
 -- An event goes by its number, from 0 and the oldest. A place i.k names the k-th event of node i, if there is one.
 use mathlib.Core.Path.{_≡_}
 use mathlib.Core.List.{List, [], _∷_}
 use mathlib.Core.Bool.{Bool, true, false, cond, _||_, _&&_}
-use Prim.Native.Nat.{ℕ}
+use Prim.Native.Nat.{ℕ, suc}
 use lib.Dec.{eqb, leb}
 use lib.ListN.{length}
 use Rattle.std.specs.declared.option.Option.{Option}
@@ -18,19 +18,22 @@ use Rattle.causality.specs.Entries.{is}
 use Rattle.causality.specs.Traces.{node-of, sends, receives, events-at}
 use Rattle.history.specs.declared.Stage.{Stage}
 
-pub record Operation : Type 0 where
-  pub name : List ℕ
-  pub members : List ℕ
+pub record Operations : Type 0 where
+  pub count : ℕ
+  pub members : List ℕ → Option (List ℕ)
 
 pub record History : Type 0 where
   pub stage : Stage
   pub nodes : ℕ
   pub events : List Event
-  pub operations : List Operation
+  pub operations : Operations
+
+abbrev pub no-operations : Operations
+no-operations = record { count = 0; members = λ name. None }
 
 -- a correlator just made
 abbrev pub idle : History
-idle = record { stage = Stage.Idle; nodes = 1; events = []; operations = [] }
+idle = record { stage = Stage.Idle; nodes = 1; events = []; operations = no-operations }
 
 abbrev pub is-idle : Stage → Bool
 is-idle Stage.Idle = true
@@ -74,10 +77,13 @@ same-name [] (y ∷ ys) = false
 same-name (x ∷ xs) [] = false
 same-name (x ∷ xs) (y ∷ ys) = eqb x y && same-name xs ys
 
--- the members of the operation of a name
-abbrev pub members-of : List Operation → List ℕ → Option (List ℕ)
-members-of [] name = None
-members-of (o ∷ os) name = cond (same-name (o .name) name) (Some (o .members)) (members-of os name)
+-- one more operation
+abbrev pub with-operation : Operations → List ℕ → List ℕ → Operations
+with-operation os name members =
+    record { count = suc (os .count); members = λ other. cond (same-name name other) (Some members) (os .members other) }
+
+abbrev pub members-of : History → List ℕ → Option (List ℕ)
+members-of h name = h .operations .members name
 
 abbrev pub is-letter : ℕ → Bool
 is-letter b = (leb 65 b && leb b 90) || (leb 48 b && leb b 57)

@@ -2,12 +2,15 @@
 
 ghost use Rattle.correlator.specs.Posted.{event-of};
 ghost use Rattle.correlator.specs.State.{history, local-tests, meet-tests, receive-tests, send-tests};
+ghost use Rattle.causality.specs.Limits.{max-events};
 ghost use Rattle.history.specs.Answers.{reason};
 ghost use Rattle.history.specs.Calls.{first-that, in-trace};
+ghost use Rattle.history.specs.declared.refusal.Refusal.the-variants.{Full};
 ghost use Rattle.records.specs.Messages.{sent-of};
 ghost use Rattle.std.specs.Vec.{made};
 ghost use Rattle.std.specs.declared.option.Option.the-variants.{Some};
-ghost use mathlib.Core.List.{[]};
+ghost use lib.Dec.{leb};
+ghost use mathlib.Core.List.{[], _∷_};
 ghost use mathlib.Core.Path.{_≡_};
 use super::Correlator;
 use causality::MAX_EVENTS;
@@ -32,15 +35,22 @@ impl<F: Clock, R: Clock> Correlator<F, R> {
         Ok(())
     }
 
+    // One more event may be held.
+    fn check_room(&self) -> Result<(), Refusal>
+        ensures { λ r. ⌜ reason r ≡ first-that ((leb max-events (now (self .entry) .len), Full) ∷ []) ⌝ }
+    {
+        if self.len >= MAX_EVENTS {
+            return Err(Refusal::Full);
+        }
+        Ok(())
+    }
+
     // The refusals of a local event.
     pub(crate) fn check_local(&self, a: u16) -> Result<(), Refusal>
         ensures { λ r. ⌜ reason r ≡ first-that (local-tests (now (self .entry)) a) ⌝ }
     {
         self.check_trace(is_node(self.nodes, a))?;
-        if self.len >= MAX_EVENTS {
-            return Err(Refusal::Full);
-        }
-        Ok(())
+        self.check_room()
     }
 
     // The refusals of a send.
@@ -54,10 +64,7 @@ impl<F: Clock, R: Clock> Correlator<F, R> {
         if let Some(_) = self.sent.find(m) {
             return Err(Refusal::SentBefore);
         }
-        if self.len >= MAX_EVENTS {
-            return Err(Refusal::Full);
-        }
-        Ok(())
+        self.check_room()
     }
 
     // The refusals of a receive, or the event that sent the message.
@@ -78,9 +85,7 @@ impl<F: Clock, R: Clock> Correlator<F, R> {
         if sent.node == a {
             return Err(Refusal::SameNode);
         }
-        if self.len >= MAX_EVENTS {
-            return Err(Refusal::Full);
-        }
+        self.check_room()?;
         Ok(sent.event)
     }
 
@@ -92,9 +97,6 @@ impl<F: Clock, R: Clock> Correlator<F, R> {
         if a == b {
             return Err(Refusal::SameNode);
         }
-        if self.len >= MAX_EVENTS {
-            return Err(Refusal::Full);
-        }
-        Ok(())
+        self.check_room()
     }
 }

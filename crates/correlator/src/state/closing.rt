@@ -9,14 +9,14 @@ ghost use Rattle.causality.specs.Traces.{sends};
 ghost use Rattle.records.specs.Messages.{sent-of};
 ghost use lib.ListN.{length, take};
 ghost use mathlib.Core.Path.{_≡_};
+use super::Correlator;
+use super::events::node_of;
+use super::events::partner_of;
 use causality::Event;
 use clock::Clock;
 use history::Refusal;
 use history::Stage;
 use records::Messages;
-use super::events::node_of;
-use super::events::partner_of;
-use super::Correlator;
 
 impl<F: Clock, R: Clock> Correlator<F, R> {
     /// Ends the trace: no more events come, and what happened after each is known.
@@ -43,7 +43,11 @@ fn feed_back<C: Clock>(clock: &mut C, events: &[Event], len: u16, sent: &Message
     while i > 0 {
         i -= 1;
         let event = events[i as usize];
-        let _ = clock.take(node_of(event), partner_of(event), follower_of(event, sent, len));
+        let _ = clock.take(
+            node_of(event),
+            partner_of(event),
+            follower_of(event, sent, len),
+        );
     }
 }
 

@@ -9,7 +9,7 @@ use Rattle.causality.specs.Traces.{backward}
 use Rattle.clock.specs.Meaning.{Meaning}
 use Rattle.clock.specs.Histories.{meaning}
 use Rattle.history.specs.declared.Stage.{Stage}
-use Rattle.history.specs.History.{History, is-closed}
+use Rattle.history.specs.History.{History, no-operations, is-closed}
 use Rattle.history.specs.Calls.{Call}
 use Rattle.history.specs.Lawful.{Fits}
 use Rattle.records.specs.Messages.{sent-of}
@@ -29,8 +29,7 @@ returns g c pre =
     let held = sent-of (s .sent) in
     let empty : g .R·Clock .means (s .reverse) ≡ meaning (s .nodes) [] = pre .back ∙ ap (λ (t : Stage). meaning (s .nodes) (cond (is-closed t) (backward vs) [])) (c .in-Open .is) in
     let all = sym (reverse-reverse (take (s .len) (s .events))) in
-    let whole = fed-whole vs (lawful .accepted) (lawful .once) held (pre .posts) (s .nodes) (lawful .few) (all-reverse (Fits (s .nodes)) vs (lawful .fits)) in
-    (
+    let whole = fed-whole vs (lawful .accepted) (lawful .once) held (pre .posts) (s .nodes) (lawful .few) (all-reverse (Fits (s .nodes)) vs (lawful .fits)) in (
       record {
         ahead = pre .ahead;
         back =
@@ -41,5 +40,5 @@ returns g c pre =
         lawful = record { fits = lawful .fits; accepted = lawful .accepted; once = lawful .once; few = lawful .few; nodes = lawful .nodes };
         posts = pre .posts;
       },
-      obeyed h (record { stage = Stage.Closed; nodes = s .nodes; events = vs; operations = [] }) Call.close tt (λ _. Unit {0}) (rw (c .in-Open .is)) refl tt,
+      obeyed h (record { stage = Stage.Closed; nodes = s .nodes; events = vs; operations = no-operations }) Call.close tt (λ _. Unit {0}) (rw (c .in-Open .is)) refl tt,
     )

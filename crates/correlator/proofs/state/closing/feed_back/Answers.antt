@@ -34,12 +34,11 @@ loop-i-again g c =
     let here : i - 1 < len = omega (arith, c .loop-i .inv .0, c .loop-i-test .taken) in
     let next : suc (i - 1) ≡ i = omega (arith, c .loop-i-test .taken) in
     let split : drop (i - 1) (take len es) ≡ v ∷ drop i (take len es) =
-        drop-cons (take len es) (i - 1) (Event.Local 0) low
-        ∙ ap (λ (w : Event). w ∷ drop (suc (i - 1)) (take len es)) (getD-take len es (i - 1) (Event.Local 0) here)
-        ∙ ap (λ (n : ℕ). v ∷ drop n (take len es)) next in
-    (
+    drop-cons (take len es) (i - 1) (Event.Local 0) low
+    ∙ ap (λ (w : Event). w ∷ drop (suc (i - 1)) (take len es)) (getD-take len es (i - 1) (Event.Local 0) here)
+    ∙ ap (λ (n : ℕ). v ∷ drop n (take len es)) next in (
       omega (arith, c .loop-i .inv .0),
       c .take .ensures .after
-      ∙ taken-same _ (fed-through start follows (drop i (take len es))) _ (node-of v) _ (partner-of v) _ (follows v) (c .loop-i .inv .1) (c .node-of .ensures) (c .partner-of .ensures) (c .follower-of .ensures)
-      ∙ ap (fed-through start follows) (sym split),
+          ∙ taken-same _ (fed-through start follows (drop i (take len es))) _ (node-of v) _ (partner-of v) _ (follows v) (c .loop-i .inv .1) (c .node-of .ensures) (c .partner-of .ensures) (c .follower-of .ensures)
+          ∙ ap (fed-through start follows) (sym split),
     )
