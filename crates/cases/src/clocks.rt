@@ -51,7 +51,14 @@ const WORKED_BACK: [Take; 8] = [
     (1, None, None),
 ];
 
-const COUNTS_BACK: [Fact; 6] = [(5, 1, Some(0)), (5, 2, Some(2)), (5, 3, Some(3)), (6, 1, Some(2)), (6, 2, Some(1)), (6, 3, Some(4))];
+const COUNTS_BACK: [Fact; 6] = [
+    (5, 1, Some(0)),
+    (5, 2, Some(2)),
+    (5, 3, Some(3)),
+    (6, 1, Some(2)),
+    (6, 2, Some(1)),
+    (6, 3, Some(4)),
+];
 
 fn takes<C: Clock>(c: &mut C, entries: &[Take]) -> bool {
     let mut all = true;
@@ -99,7 +106,15 @@ fn limits<C: Clock + Drop>() -> Result<(), Fail> {
     check(!c.begin(0) && !c.begin(17))?;
     check(c.begin(16) && fill(&mut c))?;
     check(!takes(&mut c, &[(1, None, None)]) && !c.begin(17))?;
-    check(counts(&c, &[(511, 16, Some(32)), (511, 15, Some(0)), (511, 17, None), (512, 1, None)]))?;
+    check(counts(
+        &c,
+        &[
+            (511, 16, Some(32)),
+            (511, 15, Some(0)),
+            (511, 17, None),
+            (512, 1, None),
+        ],
+    ))?;
     check(places(&c, &[(16, 32, Some(511)), (16, 33, None), (16, 0, None)]))?;
     check(c.begin(2) && counts(&c, &[(0, 1, None)]))?;
     check(c.take(1, Some(1), None).is_none() && c.take(1, Some(3), None).is_none())?;
@@ -118,7 +133,14 @@ fn ladder<C: Clock + Drop>() -> Result<(), Fail> {
         left = up;
     }
     check(left == Some(400) && right == Some(401))?;
-    check(counts(&c, &[(400, 1, Some(201)), (400, 2, Some(200)), (401, 1, Some(200))]))
+    check(counts(
+        &c,
+        &[
+            (400, 1, Some(201)),
+            (400, 2, Some(200)),
+            (401, 1, Some(200)),
+        ],
+    ))
 }
 
 #[test]

@@ -47,13 +47,34 @@ const CASES: [(&[u8], &[u8]); 30] = [
     (b"nodes=65535\n", b"line=1 refused=2\n"),
     (b"nodes=16\n", b""),
     (b"local=1\nnodes=1\nlocal=1\n", b"line=1 refused=1\n"),
-    (b"nodes=2\nmeet=1 with=1\nmeet=1 with=3\n", b"line=2 refused=10\nline=3 refused=5\n"),
-    (b"nodes=2\nsend=1 msg=65535\nsend=2 msg=65535\n", b"line=3 refused=7\n"),
-    (b"nodes=2\nrecv=1 msg=9\nsend=1 msg=9\nrecv=1 msg=9\n", b"line=2 refused=8\nline=4 refused=10\n"),
-    (b"nodes=2\nsend=1 msg=9\nrecv=2 msg=9\nrecv=2 msg=9\n", b"line=4 refused=9\n"),
-    (b"nodes=2\nsend=1 msg=9\nrecv=2 msg=9\norder=1.1 to=2.1\norder=2.1 to=1.1\n", b"line=4 answer=before\nline=5 answer=after\n"),
-    (b"nodes=2\nmeet=1 with=2\nlocal=1\nlocal=2\norder=1.1 to=2.1\norder=1.2 to=2.2\n", b"line=5 answer=same\nline=6 answer=concurrent\n"),
-    (b"nodes=1\norder=1.1 to=1.1\nlocal=1\nnodes=1\norder=1.1 to=1.1\n", b"line=2 refused=16\nline=5 refused=16\n"),
+    (
+        b"nodes=2\nmeet=1 with=1\nmeet=1 with=3\n",
+        b"line=2 refused=10\nline=3 refused=5\n",
+    ),
+    (
+        b"nodes=2\nsend=1 msg=65535\nsend=2 msg=65535\n",
+        b"line=3 refused=7\n",
+    ),
+    (
+        b"nodes=2\nrecv=1 msg=9\nsend=1 msg=9\nrecv=1 msg=9\n",
+        b"line=2 refused=8\nline=4 refused=10\n",
+    ),
+    (
+        b"nodes=2\nsend=1 msg=9\nrecv=2 msg=9\nrecv=2 msg=9\n",
+        b"line=4 refused=9\n",
+    ),
+    (
+        b"nodes=2\nsend=1 msg=9\nrecv=2 msg=9\norder=1.1 to=2.1\norder=2.1 to=1.1\n",
+        b"line=4 answer=before\nline=5 answer=after\n",
+    ),
+    (
+        b"nodes=2\nmeet=1 with=2\nlocal=1\nlocal=2\norder=1.1 to=2.1\norder=1.2 to=2.2\n",
+        b"line=5 answer=same\nline=6 answer=concurrent\n",
+    ),
+    (
+        b"nodes=1\norder=1.1 to=1.1\nlocal=1\nnodes=1\norder=1.1 to=1.1\n",
+        b"line=2 refused=16\nline=5 refused=16\n",
+    ),
 ];
 
 #[test]

@@ -66,9 +66,18 @@ fn limits<F: Clock + Drop, R: Clock + Drop>() -> Result<(), Fail> {
     check(fill(&mut c) && events(&mut c, &FULL))
 }
 
-const MESSAGE: [(Event, u8); 4] = [(Event::Send(1, 5), 0), (Event::Receive(2, 5), 0), (Event::Receive(2, 5), 9), (Event::Receive(1, 5), 9)];
+const MESSAGE: [(Event, u8); 4] = [
+    (Event::Send(1, 5), 0),
+    (Event::Receive(2, 5), 0),
+    (Event::Receive(2, 5), 9),
+    (Event::Receive(1, 5), 9),
+];
 
-const ANEW: [(Event, u8); 3] = [(Event::Receive(1, 5), 8), (Event::Send(1, 5), 0), (Event::Local(2), 5)];
+const ANEW: [(Event, u8); 3] = [
+    (Event::Receive(1, 5), 8),
+    (Event::Send(1, 5), 0),
+    (Event::Local(2), 5),
+];
 
 // A closed trace takes no events, and a new start leaves nothing of the old trace.
 fn abandoned<F: Clock + Drop, R: Clock + Drop>() -> Result<(), Fail> {
@@ -154,7 +163,14 @@ fn arrivals<F: Clock + Drop, R: Clock + Drop>() -> Result<(), Fail> {
 }
 
 // Whether a stamp writes these numbers into a row of sevens, and is answered by this number.
-fn stamps_to<F: Clock, R: Clock>(c: &Correlator<F, R>, node: u16, index: u16, d: u16, row: [u16; 4], number: u8) -> bool {
+fn stamps_to<F: Clock, R: Clock>(
+    c: &Correlator<F, R>,
+    node: u16,
+    index: u16,
+    d: u16,
+    row: [u16; 4],
+    number: u8,
+) -> bool {
     let mut written = [7u16; 4];
     told(c.stamp(Place { node, index }, d, &mut written)) == number && written == row
 }
@@ -163,7 +179,11 @@ fn stamps<F: Clock + Drop, R: Clock + Drop>() -> Result<(), Fail> {
     let mut c = Correlator::<F, R>::new();
     check(told(c.start(3)) == 0 && events(&mut c, &ARRIVALS[0]))?;
     check(stamps_to(&c, 3, 2, 1, [2, 1, 2, 7], 0) && stamps_to(&c, 2, 2, 1, [2, 2, 3, 7], 0))?;
-    check(stamps_to(&c, 2, 1, 2, [7; 4], 4) && stamps_to(&c, 1, 4, 1, [7; 4], 16) && stamps_to(&c, 1, 1, 3, [7; 4], 19))?;
+    check(
+        stamps_to(&c, 2, 1, 2, [7; 4], 4)
+            && stamps_to(&c, 1, 4, 1, [7; 4], 16)
+            && stamps_to(&c, 1, 1, 3, [7; 4], 19),
+    )?;
     check(told(c.stamp(Place { node: 1, index: 1 }, 1, &mut [7u16; 2])) == 18)?;
     check(told(c.close()) == 0)?;
     check(stamps_to(&c, 2, 1, 2, [0, 2, 3, 7], 0) && stamps_to(&c, 1, 2, 2, [2, 1, 4, 7], 0))

@@ -1,4 +1,4 @@
--- The first elements of an array, newest first, as histories and timelines are kept.
+-- The first elements of an array, newest first, as entries and timelines are kept.
 use mathlib.Core.List.{List, [], _∷_}
 use Prim.Native.Nat.{ℕ, zero, suc}
 

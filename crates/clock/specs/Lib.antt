@@ -1,3 +1,3 @@
 pub mod Meaning
-pub mod Histories
+pub mod Takes
 pub mod Arrays

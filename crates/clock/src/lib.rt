@@ -6,7 +6,7 @@ ghost use lib.Dec.{ltb};
 ghost use Rattle.causality.specs.Entries.{is, at-either};
 ghost use Rattle.causality.specs.Limits.{is-node};
 ghost use Rattle.clock.specs.Meaning.{Meaning, blank, begins, begun, if-given, admits, taken, number, counted, found, Own, Through, Earliest, No-higher};
-ghost use Rattle.clock.specs.Histories.{Meanings-grow, Meanings-answer, Meanings-lawful, Counts-are-chains};
+ghost use Rattle.clock.specs.Takes.{Meanings-grow, Meanings-answer, Meanings-lawful, Counts-are-chains};
 
 /// The most nodes of a clock.
 pub const MAX_NODES: u16 = 16;
@@ -101,30 +101,22 @@ pub fn stands(a: u16, b: Option<u16>, i: u16) -> bool
     }
 }
 
-/// An accepted take is one more entry of the history.
-pub fn meanings_grow() -> u8
+/// An accepted take adds exactly its entry.
+pub fn meanings_grow()
     ensures { λ _. ⌜ Meanings-grow ⌝ }
-{
-    0
-}
+{}
 
-/// Counts and numbers are the timestamps and the places of the history.
-pub fn meanings_answer() -> u8
+/// Counts and numbers are the timestamps and the places of the entries taken.
+pub fn meanings_answer()
     ensures { λ _. ⌜ Meanings-answer ⌝ }
-{
-    0
-}
+{}
 
-/// The meaning of every history keeps the four laws.
-pub fn meanings_lawful() -> u8
+/// Whatever was taken, the meaning keeps the four laws.
+pub fn meanings_lawful()
     ensures { λ _. ⌜ Meanings-lawful ⌝ }
-{
-    0
-}
+{}
 
 /// The k-th entry of a node is within a count exactly if it is that entry or a chain of edges leads from it.
-pub fn counts_are_chains() -> u8
+pub fn counts_are_chains()
     ensures { λ _. ⌜ Counts-are-chains ⌝ }
-{
-    0
-}
+{}

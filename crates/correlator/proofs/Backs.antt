@@ -20,7 +20,7 @@ use Rattle.causality.specs.Entries.{is}
 use Rattle.causality.specs.Traces.{node-of, partner-of, sends, receives, both, into, entries, was-sent, Accepted}
 use Rattle.causality.proofs.Newest.{entry-head, entry-cases, numbers-turned, reverse-split, length-picked, tally-reverse}
 use Rattle.clock.specs.Meaning.{Meaning, taken}
-use Rattle.clock.specs.Histories.{meaning}
+use Rattle.clock.specs.Takes.{meaning}
 use Rattle.history.specs.History.{was-received}
 use Rattle.history.specs.Lawful.{Fits, Once}
 use Rattle.records.specs.declared.messages.Sent.{Sent}

@@ -23,8 +23,8 @@ use Rattle.causality.proofs.Newest.{numbers-low, length-picked}
 use Rattle.causality.proofs.Counts.{stamps-grow}
 use Rattle.causality.proofs.Traces.{length-entries, timeline-events}
 use Rattle.clock.specs.Meaning.{Meaning, if-given, taken, counted}
-use Rattle.clock.specs.Histories.{meaning}
-use Rattle.clock.proofs.Histories.{meanings-grow, meanings-answer, length-entries as length-held}
+use Rattle.clock.specs.Takes.{meaning}
+use Rattle.clock.proofs.Takes.{meanings-grow, meanings-answer, length-entries as length-held}
 use Rattle.history.specs.declared.refusal.Refusal.{Refusal}
 use Rattle.history.specs.History.{History, is-closed, is-none}
 use Rattle.history.specs.Calls.{Call, refusal, after, with-event}

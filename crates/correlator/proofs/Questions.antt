@@ -28,8 +28,8 @@ use Rattle.causality.proofs.Counts.{stamps-tell}
 use Rattle.causality.proofs.Traces.{length-entries, timeline-events, past-is-before, before-rises, accepted-is-orderly}
 use Rattle.causality.proofs.Columns.{place-low}
 use Rattle.clock.specs.Meaning.{Meaning, counted}
-use Rattle.clock.specs.Histories.{meaning}
-use Rattle.clock.proofs.Histories.{meanings-answer}
+use Rattle.clock.specs.Takes.{meaning}
+use Rattle.clock.proofs.Takes.{meanings-answer}
 use Rattle.history.specs.declared.Stage.{Stage}
 use Rattle.history.specs.declared.refusal.Refusal.{Refusal}
 use Rattle.history.specs.History.{History, is-idle, is-open, is-closed, is-none, named}

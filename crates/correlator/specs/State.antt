@@ -19,7 +19,7 @@ use Rattle.causality.specs.declared.Place.{Place}
 use Rattle.causality.specs.Limits.{max-events, is-node}
 use Rattle.causality.specs.Traces.{node-of, partner-of, forward, backward}
 use Rattle.clock.specs.Meaning.{Meaning, taken, counted, found}
-use Rattle.clock.specs.Histories.{meaning}
+use Rattle.clock.specs.Takes.{meaning}
 use Rattle.history.specs.declared.refusal.Refusal.{Refusal}
 use Rattle.history.specs.History.{History, no-operations, is-idle, is-open, is-closed, is-none}
 use Rattle.history.specs.Calls.{with-event, in-trace}

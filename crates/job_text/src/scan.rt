@@ -46,11 +46,9 @@ pub fn check_text(text: &[u8]) -> Result<u16, Fault>
 }
 
 /// States that what `check_text` says of a text determines its answer.
-pub fn one_verdict() -> u8
+pub fn one_verdict()
     ensures { λ _. ⌜ OneVerdict ⌝ }
-{
-    0
-}
+{}
 
 /// The number of lines; a last line without its 0A counts too.
 fn count_lines(text: &[u8]) -> usize

@@ -1,4 +1,4 @@
--- Links of a history, with one more entry, and what their predecessors tell of pasts.
+-- Links of a list of takes, with one more entry, and what their predecessors tell of pasts.
 use mathlib.Core.Path.{_≡_, refl, sym, _∙_, ap, ap₂}
 use mathlib.Core.List.{List, [], _∷_, _++_}
 use mathlib.Core.Bool.{Bool, true, cond, _||_, Bool-set}
@@ -20,17 +20,17 @@ use Rattle.causality.specs.Entries.{Entry, at-either, latest, predecessors, in-
 use Rattle.causality.proofs.Pasts.{past-tail, past-head}
 use Rattle.causality.specs.Limits.{max-nodes, is-node}
 use Rattle.clock.specs.Meaning.{max-entries, if-given, asked}
-use Rattle.clock.specs.Histories.{entries-of}
+use Rattle.clock.specs.Takes.{entries-of}
 use Rattle.clock.proofs.Arrays.{length-listed, listed-like, listed-set, node-bounds, given-up, Admitted}
-use Rattle.clock.proofs.Histories.{length-entries, latest-low}
+use Rattle.clock.proofs.Takes.{length-entries, latest-low}
 use Rattle.link_clock.specs.declared.Link.{Link}
-use Rattle.link_clock.specs.Links.{no-link, entry-of, history, before, earlier, Keeps, Kept, latest-of, Noted}
+use Rattle.link_clock.specs.Links.{no-link, entry-of, takes-of, before, earlier, Keeps, Kept, latest-of, Noted}
 
-pub length-history : (links : List Link) (k : ℕ) → length (history links k) ≡ k
-length-history links k = length-listed (λ e. entry-of (getD links e no-link)) k
+pub length-takes : (links : List Link) (k : ℕ) → length (takes-of links k) ≡ k
+length-takes links k = length-listed (λ e. entry-of (getD links e no-link)) k
 
-pub length-held : (links : List Link) (k : ℕ) → length (entries-of (history links k)) ≡ k
-length-held links k = length-entries (history links k) ∙ length-history links k
+pub length-held : (links : List Link) (k : ℕ) → length (entries-of (takes-of links k)) ≡ k
+length-held links k = length-entries (takes-of links k) ∙ length-takes links k
 
 -- ---- predecessors
 
@@ -51,34 +51,34 @@ earlier-all z l low =
     each None g = tt
     each (Some x) g = (ltb-true x z g, tt)
 
--- pasts stay as the history grows
-past-grown : (links : List Link) (z y k₀ k : ℕ) → z < k₀ → k₀ ≤ k → past (history links k) z y ≡ past (history links k₀) z y
+-- pasts stay as the takes grows
+past-grown : (links : List Link) (z y k₀ k : ℕ) → z < k₀ → k₀ ≤ k → past (takes-of links k) z y ≡ past (takes-of links k₀) z y
 past-grown links z y k₀ zero l h = absurd (omega arith)
 past-grown links z y k₀ (suc k) l h =
     elim (cases-eq k₀ (suc k)) [
       | inl q ↦ rw q
-      | inr q ↦ past-tail (entry-of (getD links k no-link)) (history links k) z y (omega (arith, length-history links k)) ∙ past-grown links z y k₀ k l (omega arith)
+      | inr q ↦ past-tail (entry-of (getD links k no-link)) (takes-of links k) z y (omega (arith, length-takes links k)) ∙ past-grown links z y k₀ k l (omega arith)
     ]
 
-in-some-grown : (links : List Link) (y z k : ℕ) → z ≤ k → (xs : List ℕ) → All (λ x. x < z) xs → in-some (past (history links z)) xs y ≡ in-some (past (history links k)) xs y
+in-some-grown : (links : List Link) (y z k : ℕ) → z ≤ k → (xs : List ℕ) → All (λ x. x < z) xs → in-some (past (takes-of links z)) xs y ≡ in-some (past (takes-of links k)) xs y
 in-some-grown links y z k h [] all = refl
 in-some-grown links y z k h (x ∷ xs) (l, all) = rw (past-grown links x y z k l h, in-some-grown links y z k h xs all)
 
 -- what each link says of pasts
 pub record Linked (links : List Link) (len : ℕ) : Type 0 where
   pub low : (z : ℕ) → z < len → earlier z (getD links z no-link) ≡ true
-  pub step : (z y : ℕ) → z < len → past (history links len) z y ≡ (eqb y z || in-some (past (history links len)) (before (getD links z no-link)) y)
+  pub step : (z y : ℕ) → z < len → past (takes-of links len) z y ≡ (eqb y z || in-some (past (takes-of links len)) (before (getD links z no-link)) y)
 
 pub linked : (len : ℕ) (links : List Link) (latest-at : List (Option ℕ)) → Kept len links latest-at → Linked links len
 linked len links latest-at kept = record { low = λ z l. ∥∥₁-elim kept (Bool-set _ _) (λ k. k .low z l); step = λ z y l. ∥∥₁-elim kept (Bool-set _ _) (λ k. step k z y l) }
   where
-    step : Keeps len links latest-at → (z y : ℕ) → z < len → past (history links len) z y ≡ (eqb y z || in-some (past (history links len)) (before (getD links z no-link)) y)
+    step : Keeps len links latest-at → (z y : ℕ) → z < len → past (takes-of links len) z y ≡ (eqb y z || in-some (past (takes-of links len)) (before (getD links z no-link)) y)
     step k z y l =
         let link = getD links z no-link in
-        let size = length-history links z in
+        let size = length-takes links z in
         past-grown links z y (suc z) len (omega arith) (omega arith)
-        ∙ ap (λ (n : ℕ). past (history links (suc z)) n y) (sym size) ∙ past-head (entry-of link) (history links z) y
-        ∙ ap₂ (λ (n : ℕ) (xs : List ℕ). eqb y n || in-some (past (history links z)) xs y) size (sym (k .right z l))
+        ∙ ap (λ (n : ℕ). past (takes-of links (suc z)) n y) (sym size) ∙ past-head (entry-of link) (takes-of links z) y
+        ∙ ap₂ (λ (n : ℕ) (xs : List ℕ). eqb y n || in-some (past (takes-of links z)) xs y) size (sym (k .right z l))
         ∙ ap (λ (b : Bool). eqb y z || b) (in-some-grown links y z len (omega arith) (before link) (earlier-all z link (k .low z l)))
 
 -- ---- one more entry
@@ -88,11 +88,11 @@ module _ (len : ℕ) (links : List Link) (latest-at latest-at′ : List (Option 
   abbrev new : Link
   new = record { node = a; partner = b; own = own; other = other; prior = m }
 
-  pub history-more : history (set links len new) (len + 1) ≡ asked a b m ∷ history links len
-  history-more = rw add-one (listed-set entry-of links no-link new len (omega (arith, ok .room)))
+  pub takes-more : takes-of (set links len new) (len + 1) ≡ asked a b m ∷ takes-of links len
+  takes-more = rw add-one (listed-set entry-of links no-link new len (omega (arith, ok .room)))
 
-  history-same : (k : ℕ) → k ≤ len → history (set links len new) k ≡ history links k
-  history-same k l = listed-like _ _ k (λ e h. let ne : e ≢ len = omega arith in ap entry-of (getD-set-other links len e new no-link ne))
+  takes-same : (k : ℕ) → k ≤ len → takes-of (set links len new) k ≡ takes-of links k
+  takes-same k l = listed-like _ _ k (λ e h. let ne : e ≢ len = omega arith in ap entry-of (getD-set-other links len e new no-link ne))
 
   keeps-more : Keeps len links latest-at → Keeps (len + 1) (set links len new) latest-at′
   keeps-more k =
@@ -100,25 +100,25 @@ module _ (len : ℕ) (links : List Link) (latest-at latest-at′ : List (Option 
       let old : (e : ℕ) → e < len → getD (set links len new) e no-link ≡ getD links e no-link =
       λ e l. let ne : e ≢ len = omega arith in getD-set-other links len e new no-link ne in
       record {
-        right = below-more (λ e. before (getD (set links len new) e no-link) ≡ predecessors (entry-of (getD (set links len new) e no-link)) (history (set links len new) e)) len
-            (λ e l. rw (old e l, history-same e (omega arith)) (k .right e l))
+        right = below-more (λ e. before (getD (set links len new) e no-link) ≡ predecessors (entry-of (getD (set links len new) e no-link)) (takes-of (set links len new) e)) len
+            (λ e l. rw (old e l, takes-same e (omega arith)) (k .right e l))
             (rw here (ap₂ (λ (o p : Option ℕ). listOf o ++ (listOf p ++ listOf m)) (own-is ∙ last-of k (Some a) (ok .node)) (other-is ∙ last-of k b (ok .partner))
-            ∙ ap (predecessors (asked a b m)) (sym (history-same len (omega arith)))));
+            ∙ ap (predecessors (asked a b m)) (sym (takes-same len (omega arith)))));
         low = below-more (λ e. earlier e (getD (set links len new) e no-link) ≡ true) len
             (λ e l. rw (old e l) (k .low e l))
             (rw here (and-from _ _ (held k (Some a) own (ok .node) own-is) (and-from _ _ (held k b other (ok .partner) other-is) (ok .held))));
-        last = λ i h. noted i h ∙ ap (cond (at-either a b i) (Some len)) (k .last i h) ∙ newest-more i ∙ ap (λ (ts : List Entry). latest ts (Some i)) (sym history-more);
+        last = λ i h. noted i h ∙ ap (cond (at-either a b i) (Some len)) (k .last i h) ∙ newest-more i ∙ ap (λ (ts : List Entry). latest ts (Some i)) (sym takes-more);
       }
     where
-      last-of : Keeps len links latest-at → (o : Option ℕ) → if-given (is-node max-nodes) o ≡ true → latest-of latest-at o ≡ latest (history links len) o
+      last-of : Keeps len links latest-at → (o : Option ℕ) → if-given (is-node max-nodes) o ≡ true → latest-of latest-at o ≡ latest (takes-of links len) o
       last-of k None h = refl
       last-of k (Some i) h = k .last i h
 
       held : Keeps len links latest-at → (o x : Option ℕ) → if-given (is-node max-nodes) o ≡ true → x ≡ latest-of latest-at o → if-given (λ y. ltb y len) x ≡ true
-      held k o x h e = rw (e ∙ last-of k o h) (rw (length-history links len) at (latest-low (history links len) o))
+      held k o x h e = rw (e ∙ last-of k o h) (rw (length-takes links len) at (latest-low (takes-of links len) o))
 
-      newest-more : (i : ℕ) → cond (at-either a b i) (Some len) (latest (history links len) (Some i)) ≡ latest (asked a b m ∷ history links len) (Some i)
-      newest-more i = elim (cases-bool (at-either a b i)) [ inl s ↦ rw (s, length-history links len) | inr s ↦ rw s ]
+      newest-more : (i : ℕ) → cond (at-either a b i) (Some len) (latest (takes-of links len) (Some i)) ≡ latest (asked a b m ∷ takes-of links len) (Some i)
+      newest-more i = elim (cases-bool (at-either a b i)) [ inl s ↦ rw (s, length-takes links len) | inr s ↦ rw s ]
 
   pub kept-more : Kept len links latest-at → Kept (len + 1) (set links len new) latest-at′
   kept-more kept = ∥∥₁-elim kept ∥∥₁-prop (λ k. ∣ keeps-more k ∣₁)

@@ -16,8 +16,8 @@ use Rattle.causality.specs.Entries.{at-either, timeline, in-some, past}
 use Rattle.causality.proofs.Pasts.{pasts-lawful}
 use Rattle.clock.specs.Meaning.{max-entries}
 use Rattle.link_clock.specs.declared.Link.{Link}
-use Rattle.link_clock.specs.Links.{no-link, history, before, marked, visited, hits, reached, Walked}
-use Rattle.link_clock.proofs.Links.{length-history, earlier-all, Linked}
+use Rattle.link_clock.specs.Links.{no-link, takes-of, before, marked, visited, hits, reached, Walked}
+use Rattle.link_clock.proofs.Links.{length-takes, earlier-all, Linked}
 
 -- ---- tests
 
@@ -65,7 +65,7 @@ module _ (p : ℕ → ℕ → Bool) (y : ℕ) where
 -- ---- counting a set that holds nothing above e
 
 tally-older : (links : List Link) (p : ℕ → Bool) (e i : ℕ) → ((z : ℕ) → e < z → p z ≡ false) → (k : ℕ) → e < k →
-    tally p (timeline (history links k) i) ≡ tally p (timeline (history links (suc e)) i)
+    tally p (timeline (takes-of links k) i) ≡ tally p (timeline (takes-of links (suc e)) i)
 tally-older links p e i high zero l = absurd (omega arith)
 tally-older links p e i high (suc k) l =
     elim (cases-eq e k) [
@@ -73,7 +73,7 @@ tally-older links p e i high (suc k) l =
       | inr q ↦
           let rec = tally-older links p e i high k (omega arith) in
           elim (cases-bool (at-either (getD links k no-link .node) (getD links k no-link .partner) i)) [
-            | inl s ↦ rw (s, length-history links k, high k (omega arith)) rec
+            | inl s ↦ rw (s, length-takes links k, high k (omega arith)) rec
             | inr s ↦ rw s rec
           ]
     ]
@@ -82,10 +82,10 @@ tally-older links p e i high (suc k) l =
 
 module _ (links : List Link) (len e i : ℕ) (linked : Linked links len) (e-low : e < len) (small : len ≤ max-entries) where
   abbrev P : ℕ → ℕ → Bool
-  P = past (history links len)
+  P = past (takes-of links len)
 
   high : (z y : ℕ) → z < y → P z y ≡ false
-  high z y l = elim (cases-bool (P z y)) [ inl h ↦ absurd (omega (arith, pasts-lawful (history links len) .no-higher z y h)) | inr h ↦ h ]
+  high z y l = elim (cases-bool (P z y)) [ inl h ↦ absurd (omega (arith, pasts-lawful (takes-of links len) .no-higher z y h)) | inr h ↦ h ]
 
   pub walked-start : Walked links len e i (set (replicate max-entries false) e true) (e + 1) 0
   walked-start = record {
@@ -102,17 +102,17 @@ module _ (links : List Link) (len e i : ℕ) (linked : Linked links len) (e-low 
     -- an entry is marked when the walk comes to it exactly if it lies in the past
     told : getD marks z false ≡ P e z
     told =
-        let own = pasts-lawful (history links len) .own z (omega (arith, length-history links len, w .low)) in
+        let own = pasts-lawful (takes-of links len) .own z (omega (arith, length-takes links len, w .low)) in
         let rest = reached-none P z marks z (λ y l. elim (cases-bool (getD marks y false)) [ inl s ↦ rw (s, high y z l) | inr s ↦ rw s ]) in
         elim (cases-bool (getD marks z false)) [
           | inl s ↦ let h = w .left z (omega arith) in s ∙ rw (s, own) at h
           | inr s ↦ let h = w .left z (omega arith) in s ∙ rw (s, rest) at h
         ]
 
-    met-more : hits links marks z i + tally (P e) (timeline (history links z) i) ≡ tally (P e) (timeline (history links (suc z)) i)
+    met-more : hits links marks z i + tally (P e) (timeline (takes-of links z) i) ≡ tally (P e) (timeline (takes-of links (suc z)) i)
     met-more =
         elim (cases-bool (at-either (getD links z no-link .node) (getD links z no-link .partner) i)) [
-          | inl s ↦ rw (s, length-history links z, ← told) (grind (arith, tells))
+          | inl s ↦ rw (s, length-takes links z, ← told) (grind (arith, tells))
           | inr s ↦ rw s (grind (arith, tells))
         ]
 

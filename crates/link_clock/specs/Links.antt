@@ -1,13 +1,13 @@
 -- What the links of a link clock mean, and what a walk back over them does.
 --
 -- The link of an entry holds its nodes and its immediate predecessors. Its nodes and the entry that it follows by a message
--- are the entry as it was taken, so the links alone mean a history; `Keeps` says that the other predecessors are that history's.
+-- are the entry as it was taken, so the links alone mean a list of entries; `Keeps` says that the other predecessors are theirs.
 -- A walk marks an entry, and then from there down to the oldest marks the predecessors of each marked entry: the marked
 -- entries are the past.
 --
---   history links len       the entries that the first len links are of, newest first
+--   takes-of links len      the entries that the first len links are of, newest first
 --   before link             the immediate predecessors
---   Keeps, Kept             the links and the latest entries are those of the history
+--   Keeps, Kept             the links and the latest entries are those of these entries
 --   marked marks xs         marks, and those of xs too
 --   visited, hits           what a visit of one entry marks, and what it counts
 --   reached past marks k y  y lies in the past of a marked entry below k
@@ -25,7 +25,7 @@ use Rattle.causality.specs.Newest.{tally}
 use Rattle.causality.specs.Entries.{Entry, at-either, timeline, latest, predecessors, past, stamp}
 use Rattle.causality.specs.Limits.{max-nodes, is-node}
 use Rattle.clock.specs.Meaning.{Meaning, max-entries, if-given, asked}
-use Rattle.clock.specs.Histories.{meaning}
+use Rattle.clock.specs.Takes.{meaning}
 use Rattle.clock.specs.Arrays.{listed}
 use Rattle.link_clock.specs.declared.Link.{Link}
 
@@ -35,11 +35,11 @@ no-link = record { node = 0; partner = None; own = None; other = None; prior = N
 abbrev pub entry-of : Link → Entry
 entry-of l = asked (l .node) (l .partner) (l .prior)
 
-abbrev pub history : List Link → ℕ → List Entry
-history links len = listed (λ e. entry-of (getD links e no-link)) len
+abbrev pub takes-of : List Link → ℕ → List Entry
+takes-of links len = listed (λ e. entry-of (getD links e no-link)) len
 
 abbrev pub links-mean : ℕ → ℕ → List Link → Meaning
-links-mean n len links = meaning n (history links len)
+links-mean n len links = meaning n (takes-of links len)
 
 abbrev pub before : Link → List ℕ
 before l = listOf (l .own) ++ (listOf (l .other) ++ listOf (l .prior))
@@ -48,14 +48,14 @@ before l = listOf (l .own) ++ (listOf (l .other) ++ listOf (l .prior))
 abbrev pub earlier : ℕ → Link → Bool
 earlier k l = if-given (λ x. ltb x k) (l .own) && (if-given (λ x. ltb x k) (l .other) && if-given (λ x. ltb x k) (l .prior))
 
--- ---- the predecessors of a history
+-- ---- the predecessors of the entries taken
 
 pub record Keeps (len : ℕ) (links : List Link) (latest-at : List (Option ℕ)) : Type 0 where
   -- each link has the predecessors of its entry, all earlier than it
-  pub right : (e : ℕ) → e < len → before (getD links e no-link) ≡ predecessors (entry-of (getD links e no-link)) (history links e)
+  pub right : (e : ℕ) → e < len → before (getD links e no-link) ≡ predecessors (entry-of (getD links e no-link)) (takes-of links e)
   pub low : (e : ℕ) → e < len → earlier e (getD links e no-link) ≡ true
   -- each node has its latest entry
-  pub last : (i : ℕ) → is-node max-nodes i ≡ true → getD latest-at (i - 1) None ≡ latest (history links len) (Some i)
+  pub last : (i : ℕ) → is-node max-nodes i ≡ true → getD latest-at (i - 1) None ≡ latest (takes-of links len) (Some i)
 
 abbrev pub Kept : ℕ → List Link → List (Option ℕ) → Type 0
 Kept len links latest-at = ∥ (Keeps len links latest-at) ∥₁
@@ -93,5 +93,5 @@ pub record Walked (links : List Link) (len e i : ℕ) (marks : List Bool) (x cou
   pub size : length marks ≡ max-entries
   pub low : x ≤ e + 1
   pub small : count + x ≤ max-entries
-  pub left : (y : ℕ) → y < x → reached (past (history links len)) marks x y ≡ past (history links len) e y
-  pub met : count + tally (past (history links len) e) (timeline (history links x) i) ≡ stamp (history links len) e i
+  pub left : (y : ℕ) → y < x → reached (past (takes-of links len)) marks x y ≡ past (takes-of links len) e y
+  pub met : count + tally (past (takes-of links len) e) (timeline (takes-of links x) i) ≡ stamp (takes-of links len) e i

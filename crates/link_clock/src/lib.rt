@@ -10,7 +10,7 @@ ghost use Rattle.causality.specs.Entries.{stamp};
 ghost use Rattle.causality.specs.Entries.{at as timeline-at};
 ghost use Rattle.causality.specs.Limits.{max-nodes, is-node};
 ghost use Rattle.clock.specs.Meaning.{max-entries, blank, if-given};
-ghost use Rattle.link_clock.specs.Links.{no-link, before, earlier, history, links-mean, Kept, latest-of, Noted, marked, visited, hits};
+ghost use Rattle.link_clock.specs.Links.{no-link, before, earlier, takes-of, links-mean, Kept, latest-of, Noted, marked, visited, hits};
 use clock::Clock;
 use clock::MAX_ENTRIES;
 use clock::MAX_NODES;
@@ -120,7 +120,7 @@ impl LinkClock {
     /// How many entries at node i lie in the past of e: one pass from e down to the oldest.
     fn walk(&self, e: u16, i: u16) -> u16
         requires { ⌜ e < now self .len ⌝ }
-        ensures { λ r. ⌜ r ≡ stamp (history (now (self .entry) .links) (now (self .entry) .len)) e i ⌝ }
+        ensures { λ r. ⌜ r ≡ stamp (takes-of (now (self .entry) .links) (now (self .entry) .len)) e i ⌝ }
     {
         let mut marks = [false; ENTRIES];
         marks[e as usize] = true;
@@ -136,7 +136,7 @@ impl LinkClock {
     /// The k-th entry at node i: one pass from the oldest up.
     fn find(&self, i: u16, k: u16) -> Option<u16>
         requires { ⌜ 1 ≤ k ⌝ }
-        ensures { λ r. ⌜ r ≡ timeline-at (history (now (self .entry) .links) (now (self .entry) .len)) i k ⌝ }
+        ensures { λ r. ⌜ r ≡ timeline-at (takes-of (now (self .entry) .links) (now (self .entry) .len)) i k ⌝ }
     {
         let mut height = 0;
         for x in 0..self.len {

@@ -1,4 +1,4 @@
--- Rows and columns of a history mean that history, and so do those with one more entry.
+-- Rows and columns of a list of takes mean that takes, and so do those with one more entry.
 use mathlib.Core.Path.{_≡_, refl, sym, _∙_, ap, ap₂, subst}
 use mathlib.Core.List.{List, [], _∷_, _++_, List·isSet}
 use mathlib.Core.Bool.{true, cond, _&&_, Bool-set}
@@ -25,15 +25,15 @@ use Rattle.causality.proofs.Pasts.{own, at-low, past-tail, pasts-lawful}
 use Rattle.causality.proofs.Counts.{tally-le, stamps-tell, stamps-grow}
 use Rattle.causality.specs.Limits.{max-nodes, is-node}
 use Rattle.clock.specs.Meaning.{Held, max-entries, held-at, within, next-past, appended, asked, if-given}
-use Rattle.clock.specs.Histories.{entries-of}
+use Rattle.clock.specs.Takes.{entries-of}
 use Rattle.clock.specs.Arrays.{listed}
 use Rattle.clock.proofs.Arrays.{length-listed, listed-like, node-bounds, node-up, Admitted}
-use Rattle.clock.proofs.Histories.{Of-history, held-timeline, tally-stamp, next-past-is, entries-held, latest-low}
+use Rattle.clock.proofs.Takes.{Of-takes, held-timeline, tally-stamp, next-past-is, entries-held, latest-low}
 use Rattle.row_clock.specs.declared.parts.Row.{Row}
 use Rattle.row_clock.specs.declared.parts.Column.{Column}
 use Rattle.row_clock.specs.Rows.{no-row, no-column, cell, line-of, reaches, held-row, rows-mean, Keeps, Kept, latest-of, cell-of, next-count, Filed}
 
--- ---- of any history
+-- ---- of any takes
 
 -- an entry is the k-th of its node, where k is its own count there
 own-kth : (ts : List Entry) (x i : ℕ) → Mem x (timeline ts i) → at ts i (stamp ts x i) ≡ Some x
@@ -64,7 +64,7 @@ greatest-append : (f : ℕ → ℕ) (xs ys : List ℕ) → greatest f (xs ++ ys)
 greatest-append f [] ys = omega arith
 greatest-append f (x ∷ xs) ys = omega (arith, greatest-append f xs ys)
 
--- ---- what rows and columns tell of their history
+-- ---- what rows and columns tell of their takes
 
 module _ (len : ℕ) (rows : List Row) (columns : List Column) (ts : List Entry) (k : Keeps len rows columns ts) where
   pub reaches-past : (e x : ℕ) → e < len → reaches rows e x ≡ past ts e x
@@ -178,8 +178,8 @@ module _ (len : ℕ) (rows : List Row) (columns columns′ : List Column) (a : �
 -- ---- what a clock answers
 
 module _ (n len : ℕ) (rows : List Row) (columns : List Column) (small : n ≤ max-nodes) (kept : Kept len rows columns) where
-  pub of-history : Of-history (rows-mean n len rows)
-  of-history = ∥∥₁-elim kept ∥∥₁-prop (λ (ts, k). ∣ (ts, entries-kept len rows columns ts k) ∣₁)
+  pub of-takes : Of-takes (rows-mean n len rows)
+  of-takes = ∥∥₁-elim kept ∥∥₁-prop (λ (ts, k). ∣ (ts, entries-kept len rows columns ts k) ∣₁)
 
   pub cell-tally : (e i : ℕ) → true ≡ (ltb e len && is-node n i) → cell rows e i ≡ tally (within (listed (held-row rows) len) e) (held-at (listed (held-row rows) len) i)
   cell-tally e i h = ∥∥₁-elim kept (ℕ-set _ _) (λ (ts, k).

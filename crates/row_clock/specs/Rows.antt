@@ -1,13 +1,13 @@
--- What the rows and columns of a row clock mean, and of which history they are.
+-- What the rows and columns of a row clock mean, and of which entries they are.
 --
 -- The row of an entry holds its vector timestamp: how many entries of each node lie in its past. The column of a node holds
 -- the numbers of its entries. An entry lies in the past of another exactly if that other counts at least as many entries at its
--- node as it counts itself, so the rows alone mean all pasts. `Keeps` says that rows and columns are those of a history.
+-- node as it counts itself, so the rows alone mean all pasts. `Keeps` says that rows and columns are those of a list of entries.
 --
 --   cell rows e i       the count of entry e at node i
 --   line-of columns i   the numbers of the entries at node i, newest first
 --   reaches rows e x    entry x lies in the past of entry e, as the rows tell it
---   Keeps, Kept         the rows and columns are those of a given history, of some history
+--   Keeps, Kept         the rows and columns are those of given entries, of some entries
 --   next-count, Filed   what a take writes to the new row, and to the columns
 use mathlib.Core.Path.{_≡_, refl}
 use mathlib.Core.List.{List, _∷_}
@@ -51,7 +51,7 @@ held-row rows e = record { node = getD rows e no-row .node; partner = getD rows 
 abbrev pub rows-mean : ℕ → ℕ → List Row → Meaning
 rows-mean n len rows = record { nodes = n; entries = listed (held-row rows) len }
 
--- ---- the history of rows and columns
+-- ---- the entries of rows and columns
 
 pub record Keeps (len : ℕ) (rows : List Row) (columns : List Column) (ts : List Entry) : Type 0 where
   pub size : length ts ≡ len

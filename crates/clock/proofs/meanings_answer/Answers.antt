@@ -1,5 +1,5 @@
--- Answers are the timestamps and places of the history.
-use Rattle.clock.proofs.Histories.{meanings-answer}
+-- Answers are the timestamps and places of the takes.
+use Rattle.clock.proofs.Takes.{meanings-answer}
 use Rattle.clock.proofs.meanings_answer.Needs as need
 
 pub returns : need.returns

@@ -1,5 +1,5 @@
--- The four laws hold of every history.
-use Rattle.clock.proofs.Histories.{meanings-lawful}
+-- The four laws hold of every list of takes.
+use Rattle.clock.proofs.Takes.{meanings-lawful}
 use Rattle.clock.proofs.meanings_lawful.Needs as need
 
 pub returns : need.returns

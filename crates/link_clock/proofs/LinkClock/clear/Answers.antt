@@ -1,4 +1,4 @@
--- A cleared clock keeps the empty history.
+-- A cleared clock keeps no entries.
 use borrow.Author.Needs.{needs}
 use Rattle.link_clock.proofs.Links.{kept-none}
 use Rattle.link_clock.proofs.LinkClock.clear.Needs as need

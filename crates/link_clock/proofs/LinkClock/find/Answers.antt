@@ -5,7 +5,7 @@ use native.Mathlib.Omega.{arith}
 use lib.ListN.{length}
 use Rattle.std.proofs.shelf.Tests.{cond-true, cond-false}
 use Rattle.causality.specs.Entries.{timeline}
-use Rattle.link_clock.specs.Links.{history}
+use Rattle.link_clock.specs.Links.{takes-of}
 use Rattle.link_clock.proofs.Finds.{at-none, at-here, timeline-more}
 use Rattle.link_clock.proofs.LinkClock.find.Needs as need
 use Rattle.link_clock.proofs.LinkClock.find.Needs.{then-stands·else-height-k, else-stands}
@@ -33,6 +33,6 @@ pub returns : need.returns
 returns c =
     let s = c .args .self .now in
     let end : c .loop-x .x ≡ s .len = omega (arith, c .loop-x-test .left, c .loop-x .kept) in
-    let h : c .loop-x .height ≡ length (timeline (history (s .links) (s .len)) (c .args .i)) =
-    c .loop-x .inv .0 ∙ ap (λ (n : ℕ). length (timeline (history (s .links) n) (c .args .i))) end in
-    sym (at-none (history (s .links) (s .len)) (c .args .i) (c .args .k) (omega (arith, h, c .loop-x .inv .1)))
+    let h : c .loop-x .height ≡ length (timeline (takes-of (s .links) (s .len)) (c .args .i)) =
+    c .loop-x .inv .0 ∙ ap (λ (n : ℕ). length (timeline (takes-of (s .links) n) (c .args .i))) end in
+    sym (at-none (takes-of (s .links) (s .len)) (c .args .i) (c .args .k) (omega (arith, h, c .loop-x .inv .1)))

@@ -1,4 +1,4 @@
--- A new clock keeps the empty history.
+-- A new clock keeps no entries.
 use borrow.Author.Needs.{needs}
 use Rattle.link_clock.proofs.Links.{kept-none}
 use Rattle.link_clock.proofs.LinkClocks.new.Needs as need

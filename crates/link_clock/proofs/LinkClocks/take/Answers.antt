@@ -8,12 +8,12 @@ use lib.ListN.{set, length-set}
 use Rattle.std.specs.declared.option.Option.{Option}
 use Rattle.std.specs.declared.option.Option.the-variants.{Some}
 use Rattle.clock.specs.Meaning.{admits, taken, number}
-use Rattle.clock.specs.Histories.{meaning}
+use Rattle.clock.specs.Takes.{meaning}
 use Rattle.clock.proofs.Arrays.{Admitted, admitted}
-use Rattle.clock.proofs.Histories.{take-refused, take-accepted}
+use Rattle.clock.proofs.Takes.{take-refused, take-accepted}
 use Rattle.link_clock.specs.declared.LinkClock.{LinkClock}
 use Rattle.link_clock.specs.Links.{links-mean, Kept, latest-of, Noted}
-use Rattle.link_clock.proofs.Links.{length-held, history-more, kept-more}
+use Rattle.link_clock.proofs.Links.{length-held, takes-more, kept-more}
 use Rattle.link_clock.proofs.LinkClocks.take.Needs as need
 
 pub returns-then-not-admits : need.returns-then-not-admits
@@ -34,7 +34,7 @@ module _ (s : LinkClock) (a : ℕ) (b m : Option ℕ) (h : true ≡ admits (s .n
   grown own other latest p q noted =
       let (after, value) = take-accepted (links-mean (s .nodes) (s .len) (s .links)) (s .len) (length-held (s .links) (s .len)) a b m h in (
         kept-more (s .len) (s .links) (s .latest) latest a b m own other (s .long .0) ok p q noted (s .kept),
-        ap (meaning (s .nodes)) (history-more (s .len) (s .links) (s .latest) latest a b m own other (s .long .0) ok p q noted) ∙ after,
+        ap (meaning (s .nodes)) (takes-more (s .len) (s .links) (s .latest) latest a b m own other (s .long .0) ok p q noted) ∙ after,
         value,
       )
 

@@ -1,4 +1,4 @@
--- A cleared clock keeps the empty history.
+-- A cleared clock keeps no entries.
 use mathlib.Core.Path.{refl}
 use borrow.Author.Needs.{needs}
 use Rattle.row_clock.proofs.Rows.{kept-none}

@@ -2,7 +2,7 @@
 use mathlib.Core.Path.{ap, _∙_}
 use Rattle.std.specs.declared.option.Option.the-variants.{Some}
 use Rattle.clock.proofs.Arrays.{length-listed}
-use Rattle.clock.proofs.Histories.{count-absent, count-present}
+use Rattle.clock.proofs.Takes.{count-absent, count-present}
 use Rattle.row_clock.specs.Rows.{held-row, rows-mean}
 use Rattle.row_clock.proofs.Rows.{cell-tally}
 use Rattle.row_clock.proofs.RowClocks.count.Needs as need

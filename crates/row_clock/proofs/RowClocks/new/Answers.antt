@@ -1,4 +1,4 @@
--- A new clock keeps the empty history.
+-- A new clock keeps no entries.
 use mathlib.Core.Path.{refl}
 use borrow.Author.Needs.{needs}
 use Rattle.row_clock.proofs.Rows.{kept-none}

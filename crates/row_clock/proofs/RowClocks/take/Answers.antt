@@ -12,7 +12,7 @@ use Rattle.std.proofs.shelf.Tests.{ltb-true, lt-ltb}
 use Rattle.causality.specs.Limits.{max-nodes, is-node}
 use Rattle.clock.specs.Meaning.{Held, Meaning, max-entries, if-given, admits, taken, number}
 use Rattle.clock.proofs.Arrays.{length-listed, given-up, Admitted, admitted}
-use Rattle.clock.proofs.Histories.{take-refused, take-accepted}
+use Rattle.clock.proofs.Takes.{take-refused, take-accepted}
 use Rattle.row_clock.specs.declared.parts.Row.{Row}
 use Rattle.row_clock.specs.declared.parts.Column.{Column}
 use Rattle.row_clock.specs.declared.RowClock.{RowClock}

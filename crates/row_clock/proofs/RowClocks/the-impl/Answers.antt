@@ -1,13 +1,13 @@
--- The four laws, from the history that the rows are of.
+-- The four laws, from the takes that the rows are of.
 use Rattle.clock.specs.Meaning.{Laws}
-use Rattle.clock.proofs.Histories.{history-lawful}
+use Rattle.clock.proofs.Takes.{takes-lawful}
 use Rattle.row_clock.specs.declared.RowClock.{RowClock}
 use Rattle.row_clock.specs.Rows.{rows-mean}
-use Rattle.row_clock.proofs.Rows.{of-history}
+use Rattle.row_clock.proofs.Rows.{of-takes}
 use Rattle.row_clock.proofs.RowClocks.the-impl.Needs as need
 
 lawful : (x : RowClock) → Laws (rows-mean (x .nodes) (x .len) (x .rows))
-lawful x = history-lawful _ (of-history (x .nodes) (x .len) (x .rows) (x .columns) (x .within .1) (x .kept))
+lawful x = takes-lawful _ (of-takes (x .nodes) (x .len) (x .rows) (x .columns) (x .within .1) (x .kept))
 
 pub own-law : need.own-law
 own-law x = lawful x .own

@@ -7,7 +7,7 @@ use Rattle.std.specs.declared.option.Option.{Option}
 use Rattle.causality.specs.declared.Event.{Event}
 use Rattle.causality.specs.Traces.{backward}
 use Rattle.clock.specs.Meaning.{Meaning}
-use Rattle.clock.specs.Histories.{meaning}
+use Rattle.clock.specs.Takes.{meaning}
 use Rattle.history.specs.declared.Stage.{Stage}
 use Rattle.history.specs.History.{History, no-operations, is-closed}
 use Rattle.history.specs.Calls.{Call}

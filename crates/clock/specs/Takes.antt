@@ -1,9 +1,9 @@
--- The meaning of a history, a list of entries of the causal theory, and what that theory then says of a clock's answers.
+-- What a clock means that took some entries of the causal theory, and what that theory then says of its answers.
 --
--- A clock that begins blank and accepts some takes means the history of these takes (`Meanings-grow`), counts its vector
--- timestamps and finds its places (`Meanings-answer`), and so tells which entries chains of edges lead to (`Counts-are-chains`).
+-- A clock that begins blank means exactly the entries that it accepted (`Meanings-grow`), counts their vector timestamps and
+-- finds their places (`Meanings-answer`), and so tells from which entries chains of edges lead (`Counts-are-chains`).
 --
---   meaning n ts   the meaning of n nodes and the history ts, newest first
+--   meaning n ts   the meaning of n nodes and the entries ts, newest first
 --   Reach ts x e   x is e, or a chain of edges leads from x to e
 use mathlib.Core.Path.{_≡_}
 use mathlib.Core.List.{List, [], _∷_}
@@ -18,7 +18,7 @@ use Rattle.causality.specs.Entries.{Entry, at, stamp, Reach}
 use Rattle.causality.specs.Limits.{is-node}
 use Rattle.clock.specs.Meaning.{Held, Meaning, appended, asked, accepts, taken, number, counted, found, Laws}
 
--- the entries that a clock holds of a history
+-- what a clock holds of the entries that it took
 abbrev pub entries-of : List Entry → List Held
 entries-of [] = []
 entries-of (t ∷ ts) = appended t (entries-of ts)

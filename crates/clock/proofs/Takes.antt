@@ -1,4 +1,4 @@
--- What a history means to a clock is what the causal theory says of it.
+-- What a list of takes means to a clock is what the causal theory says of it.
 use mathlib.Core.Path.{_≡_, refl, sym, _∙_, ap, ap₂, subst, fun-ext}
 use mathlib.Core.List.{List, [], _∷_, _++_}
 use mathlib.Core.Bool.{Bool, true, false, cond, _&&_, Bool-set}
@@ -19,7 +19,7 @@ use Rattle.causality.proofs.Pasts.{at-low, past-tail, past-head, past-reach, re
 use Rattle.causality.proofs.Counts.{stamps-tell}
 use Rattle.causality.specs.Limits.{is-node}
 use Rattle.clock.specs.Meaning.{Held, Meaning, held-at, within, latest-held, held-before, next-past, asked, if-given, admits, with-entry, taken, number, counted, Laws}
-use Rattle.clock.specs.Histories.{entries-of, Meanings-grow, Meanings-answer, Meanings-lawful, Counts-are-chains}
+use Rattle.clock.specs.Takes.{entries-of, Meanings-grow, Meanings-answer, Meanings-lawful, Counts-are-chains}
 use Rattle.clock.specs.Arrays.{listed}
 
 pub length-entries : (ts : List Entry) → length (entries-of ts) ≡ length ts
@@ -64,12 +64,12 @@ meanings-lawful n ts =
       no-higher = λ e x h. laws .no-higher e x (rw (within-is ts) at h) .0;
     }
 
--- s holds the entries of some history
-abbrev pub Of-history : Meaning → Type 0
-Of-history s = ∥ ((ts : List Entry) × (s .entries ≡ entries-of ts)) ∥₁
+-- s holds the entries of some takes
+abbrev pub Of-takes : Meaning → Type 0
+Of-takes s = ∥ ((ts : List Entry) × (s .entries ≡ entries-of ts)) ∥₁
 
-pub history-lawful : (s : Meaning) → Of-history s → Laws s
-history-lawful s of =
+pub takes-lawful : (s : Meaning) → Of-takes s → Laws s
+takes-lawful s of =
     let laws : (ts : List Entry) → s .entries ≡ entries-of ts → Laws s =
     λ ts same. subst Laws (λ i. record { nodes = s .nodes; entries = sym same i }) (meanings-lawful (s .nodes) ts) in
     record {
@@ -117,9 +117,9 @@ counts-are-chains n ts i k x e c f h =
     let (out, back) = stamps-tell ts e i k x it in
     ((λ l. past-reach ts e x (back (omega arith))), λ r. omega (arith, out (reach-past ts e x r)))
 
--- ---- the entries of a history, one by one
+-- ---- the entries of a list of takes, one by one
 
--- v is entry e of the history ts
+-- v is entry e of the takes ts
 abbrev pub Holds : List Entry → ℕ → Held → Type 0
 Holds ts e v =
     (priors : List ℕ) × (entry ts e ≡ Some (record { node = v .node; partner = v .partner; priors = priors })) × ((x : ℕ) → v .past x ≡ past ts e x)
