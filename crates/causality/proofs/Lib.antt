@@ -5,5 +5,6 @@ pub mod Counts
 pub mod Traces
 pub mod Sets
 pub mod Relations
+pub mod Indexes
 pub mod Columns
 pub mod Worked

@@ -27,7 +27,7 @@ use Rattle.causality.proofs.Sets.{Meets, Joins, Measures, every-node, some-nod
 -- ---- places
 
 -- the place of x in a column is 1 more than how many are older there
-position-entry : (c : List ℕ) (x k : ℕ) → position c x ≡ Some k → (n : ℕ) × (k ≡ suc n) × (entry c n ≡ Some x)
+pub position-entry : (c : List ℕ) (x k : ℕ) → position c x ≡ Some k → (n : ℕ) × (k ≡ suc n) × (entry c n ≡ Some x)
 position-entry [] x k e = absurd (nothing e)
 position-entry (z ∷ zs) x k e =
     elim (cases-bool (eqb z x)) [
@@ -35,7 +35,7 @@ position-entry (z ∷ zs) x k e =
       | inr h ↦ let (n, l, f) = position-entry zs x k (rw h at e) in (n, l, entry-up z zs n x f)
     ]
 
-mem-position : (c : List ℕ) (x : ℕ) → Mem x c → (k : ℕ) × (position c x ≡ Some k)
+pub mem-position : (c : List ℕ) (x : ℕ) → Mem x c → (k : ℕ) × (position c x ≡ Some k)
 mem-position [] x m = absurd m
 mem-position (z ∷ zs) x m =
     elim (cases-bool (eqb z x)) [
@@ -48,7 +48,7 @@ all-member P [] all x m = absurd m
 all-member P (y ∷ ys) (h, all) x (inl e) = rw (← e) h
 all-member P (y ∷ ys) (h, all) x (inr m) = all-member P ys all x m
 
-at-entry : (goes : Event → Event → Bool) (vs : List Event) (i n x : ℕ) → entry (events-at vs i) n ≡ Some x → at (entries goes vs) i (suc n) ≡ Some x
+pub at-entry : (goes : Event → Event → Bool) (vs : List Event) (i n x : ℕ) → entry (events-at vs i) n ≡ Some x → at (entries goes vs) i (suc n) ≡ Some x
 at-entry goes vs i n x e = rw (timeline-events goes vs i) (entry-kth (events-at vs i) n ∙ e)
 
 module _ (vs : List Event) (orderly : Orderly vs) where

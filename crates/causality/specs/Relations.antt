@@ -21,9 +21,9 @@ use Rattle.std.specs.declared.option.Option.{Option}
 use Rattle.std.specs.declared.option.Option.the-variants.{Some, None}
 use Rattle.std.specs.shelf.Lists.{All}
 use Rattle.causality.specs.declared.Event.{Event}
-use Rattle.causality.specs.Newest.{Any, Mem}
+use Rattle.causality.specs.Newest.{entry, Any, Mem}
 use Rattle.causality.specs.Entries.{stamp}
-use Rattle.causality.specs.Traces.{events-at, Before, Orderly, forward, backward, mirror}
+use Rattle.causality.specs.Traces.{stands, events-at, Before, Orderly, forward, backward, mirror}
 
 abbrev pub To : List Event → ℕ → ℕ → Type 0
 To vs x y = (x ≡ y) ⊎ Before vs x y
@@ -127,3 +127,7 @@ abbrev pub Indexed-nodes : Type 0
 Indexed-nodes =
     (vs : List Event) (xs : List ℕ) (i k : ℕ) → (first-at vs xs i ≡ Some k) ⊎ (last-at vs xs i ≡ Some k) →
     (x : ℕ) × Mem x xs × Mem x (events-at vs i)
+
+-- an event's index at a node where it stands is its own timestamp there, so that indexes too are got from a clock
+abbrev pub Index-is-stamp : Type 0
+Index-is-stamp = (vs : List Event) (x i : ℕ) (v : Event) → entry vs x ≡ Some v → index vs i x ≡ cond (stands v i) (Some (fore vs x i)) None

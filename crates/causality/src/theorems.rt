@@ -2,7 +2,7 @@
 
 ghost use Rattle.causality.specs.Entries.{Past-is-reach, Pasts-lawful, Counts-tell, Stamps-tell, Stamps-grow};
 ghost use Rattle.causality.specs.Traces.{Past-is-before, Mirrored, Future-is-after, Accepted-is-orderly};
-ghost use Rattle.causality.specs.Relations.{Cuts-tell, Relations-by-cuts, Indexed-nodes};
+ghost use Rattle.causality.specs.Relations.{Index-is-stamp, Cuts-tell, Relations-by-cuts, Indexed-nodes};
 ghost use Rattle.causality.specs.Columns.{Columns-decide};
 ghost use Rattle.causality.specs.Worked.{Worked-trace};
 
@@ -65,6 +65,12 @@ pub fn relations_by_cuts()
 pub fn indexed_nodes()
     ensures { λ _. ⌜ Indexed-nodes ⌝ }
 {}
+
+/// An event's index at a node where it stands is its own timestamp there.
+pub fn index_is_stamp()
+    ensures { λ _. ⌜ Index-is-stamp ⌝ }
+{
+}
 
 /// Equal columns give equal pasts, futures and timestamps, whatever the order of arrival.
 pub fn columns_decide()
