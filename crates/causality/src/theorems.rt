@@ -69,8 +69,7 @@ pub fn indexed_nodes()
 /// An event's index at a node where it stands is its own timestamp there.
 pub fn index_is_stamp()
     ensures { λ _. ⌜ Index-is-stamp ⌝ }
-{
-}
+{}
 
 /// Equal columns give equal pasts, futures and timestamps, whatever the order of arrival.
 pub fn columns_decide()

@@ -32,6 +32,8 @@ use Rattle.history.specs.Answers.{Obeys, next-place}
 use Rattle.history.specs.Lawful.{Fits, Lawful}
 use Rattle.history.proofs.Lawful.{May, may-lawful}
 use Rattle.correlator.specs.declared.state.Correlator.{Correlator}
+use Rattle.records.specs.Messages.{sent-of}
+use Rattle.correlator.specs.Posted.{posted}
 use Rattle.correlator.specs.State.{history, fed, fed-back, or-zero, Sound, Appended}
 use Rattle.correlator.proofs.Kept.{kept-length}
 
@@ -72,33 +74,31 @@ module _ (h : History) (v : Event) (may : May h v) where
 still : (h : History) (v : Event) → is-closed (h .stage) ≡ false → fed-back h ≡ fed-back (with-event h v)
 still h v unclosed = rw unclosed refl
 
--- what is sound again after one more event, but for the table
-pub record Went {X Y : Type 0} (f : X → Meaning) (r : Y → Meaning) (c c′ : Correlator X Y) (v : Event) (p : Place) : Type 0 where
-  pub ahead : f (c′ .forward) ≡ fed (history c′)
-  pub back : r (c′ .reverse) ≡ fed-back (history c′)
-  pub lawful : Lawful (history c′)
-  pub place : p ≡ next-place (history c) (node-of v)
-
-pub went : {X Y : Type 0} (f : X → Meaning) (r : Y → Meaning) (c c′ : Correlator X Y) (v : Event) (m : Option ℕ) (p : Place) →
-    Sound f r c → Appended f c c′ v m p → May (history c) v → is-closed (c .stage) ≡ false → listOf m ≡ numbers (from v) (history c .events) → Went f r c c′ v p
-went f r c c′ v m p sound done may unclosed priors =
-    let h = history c in
-    let took : f (c′ .forward) ≡ fed (with-event h v) = done .fed-on ∙ ap (λ (x : Meaning). taken x (node-of v) (partner-of v) m) (sound .ahead) ∙ takes-it h v may m priors in
-    let number = sym (kept-length (c .len) (c .events) (c .long) (c .within)) in
-    record {
-      ahead = took ∙ ap fed (sym (done .grown));
-      back = ap r (done .back) ∙ sound .back ∙ still h v unclosed ∙ ap fed-back (sym (done .grown));
-      lawful = subst Lawful (sym (done .grown)) (may-lawful h v (sound .lawful) may);
-      place =
-          done .place
-          ∙ ap (λ (k : ℕ). record { node = node-of v; index = k })
-          (ap (λ (x : Meaning). or-zero (counted x (c .len) (node-of v))) took ∙ ap (λ (n : ℕ). or-zero (counted (fed (with-event h v)) n (node-of v))) number ∙ new-index h v may);
-    }
-
 -- an accepted call, from its parts
 pub obeyed : {X : Type 0} (h h′ : History) (k : Call) (x : X) (Right : X → Type 0) → refusal h k ≡ None → h′ ≡ after h k → Right x → Obeys h k (Ok x) Right h′
 obeyed h h′ k x Right free leaves right =
     record { refuses = sym free; leaves = leaves ∙ ap (λ (o : Option Refusal). cond (is-none o) (after h k) h) (sym free); answers = right }
+
+-- an accepted event call: c₁ is what `append` left, and c′ is that with the table brought up to date
+module _ {X Y : Type 0} (f : X → Meaning) (r : Y → Meaning) (c c₁ c′ : Correlator X Y) (v : Event) (m : Option ℕ) (p : Place) (k : Call) where
+  pub event-done : Sound f r c → Appended f c c₁ v m p → May (history c) v → is-closed (c .stage) ≡ false → listOf m ≡ numbers (from v) (history c .events) →
+      refusal (history c) k ≡ None → after (history c) k ≡ with-event (history c) v →
+      c′ .forward ≡ c₁ .forward → c′ .reverse ≡ c₁ .reverse → history c′ ≡ history c₁ → ((j : ℕ) → sent-of (c′ .sent) j ≡ posted (v ∷ history c .events) j) →
+      Sound f r c′ × Obeys (history c) k (Ok p) (λ q. q ≡ next-place (history c) (node-of v)) (history c′)
+  event-done sound done may unclosed priors free leaves ahead back same posts =
+      let h = history c in
+      let took : f (c₁ .forward) ≡ fed (with-event h v) = done .fed-on ∙ ap (λ (x : Meaning). taken x (node-of v) (partner-of v) m) (sound .ahead) ∙ takes-it h v may m priors in
+      let grown : history c′ ≡ with-event h v = same ∙ done .grown in
+      let number = sym (kept-length (c .len) (c .events) (c .long) (c .within)) in
+      let index = ap (λ (x : Meaning). or-zero (counted x (c .len) (node-of v))) took ∙ ap (λ (n : ℕ). or-zero (counted (fed (with-event h v)) n (node-of v))) number ∙ new-index h v may in (
+        record {
+          ahead = ap f ahead ∙ took ∙ ap fed (sym grown);
+          back = ap r (back ∙ done .back) ∙ sound .back ∙ still h v unclosed ∙ ap fed-back (sym grown);
+          lawful = subst Lawful (sym grown) (may-lawful h v (sound .lawful) may);
+          posts = λ j. posts j ∙ ap (λ (x : History). posted (x .events) j) (sym grown);
+        },
+        obeyed h (history c′) k p (λ q. q ≡ next-place h (node-of v)) free (grown ∙ sym leaves) (done .place ∙ ap (λ (n : ℕ). record { node = node-of v; index = n }) index),
+      )
 
 -- an event that receives nothing follows no other by a message
 pub numbers-never : (vs : List Event) → numbers (λ w. false) vs ≡ []

@@ -2,18 +2,14 @@ use mathlib.Core.Path.{_≡_, refl, sym, ap, _∙_}
 use borrow.Author.Needs.{needs}
 use Rattle.std.specs.declared.option.Option.the-variants.{Some, None}
 use Rattle.causality.specs.declared.Event.{Event}
-use Rattle.causality.specs.declared.Place.{Place}
-use Rattle.history.specs.History.{History}
 use Rattle.history.specs.Calls.{Call, refusals}
-use Rattle.history.specs.Answers.{next-place}
 use Rattle.history.proofs.Passed.{passed}
+use Rattle.history.proofs.Lawful.{may-meet}
 use Rattle.records.specs.declared.messages.Messages.{Messages}
 use Rattle.records.specs.Messages.{sent-of}
-use Rattle.correlator.specs.Posted.{posted}
 use Rattle.correlator.specs.State.{history}
-use Rattle.history.proofs.Lawful.{may-meet}
 use Rattle.correlator.proofs.Posts.{meet-refusal}
-use Rattle.correlator.proofs.Events.{went, obeyed, numbers-never}
+use Rattle.correlator.proofs.Events.{event-done, numbers-never}
 use Rattle.correlator.proofs.state.Correlator.meet.Needs as need
 
 pub returns-in-Break-check-meet : need.returns-in-Break-check-meet
@@ -23,16 +19,10 @@ returns-in-Break-check-meet g c pre =
 
 pub returns : need.returns
 returns g c pre =
+    let f = g .F·Clock .means in
+    let r = g .R·Clock .means in
     let s = c .args .self .now in
-    let h : History = history s in
-    let free = sym (c .in-Continue-check-meet .ensures tt ∙ meet-refusal (g .F·Clock .means) (g .R·Clock .means) s (c .args .a) (c .args .b)) in
-    let done = c .append .ensures in
-    let w = went (g .F·Clock .means) (g .R·Clock .means) s (c .append .last .self) (Event.Meet (c .args .a) (c .args .b)) None (c .append .result) pre done (may-meet h (c .args .a) (c .args .b) free) (passed (refusals h (Call.meet (c .args .a) (c .args .b))) free .1 .0) (sym (numbers-never (h .events))) in (
-      record {
-        ahead = w .ahead;
-        back = w .back;
-        lawful = w .lawful;
-        posts = λ m. ap (λ (t : Messages). sent-of t m) (done .sent) ∙ pre .posts m ∙ ap (λ (k : History). posted (k .events) m) (sym (done .grown));
-      },
-      obeyed h (history (c .append .last .self)) (Call.meet (c .args .a) (c .args .b)) (c .append .result) (λ (p : Place). p ≡ next-place h (c .args .a)) free (done .grown) (w .place),
-    )
+    let h = history s in
+    let free = sym (c .in-Continue-check-meet .ensures tt ∙ meet-refusal f r s (c .args .a) (c .args .b)) in
+    event-done f r s (c .append .last .self) _ (Event.Meet (c .args .a) (c .args .b)) None (c .append .result) (Call.meet (c .args .a) (c .args .b)) pre (c .append .ensures) (may-meet h (c .args .a) (c .args .b) free) (passed (refusals h (Call.meet (c .args .a) (c .args .b))) free .1 .0) (sym (numbers-never (h .events)))
+    free refl refl refl refl (λ j. ap (λ (t : Messages). sent-of t j) (c .append .ensures .sent) ∙ pre .posts j)
