@@ -34,7 +34,8 @@ use Rattle.history.proofs.Lawful.{May, may-lawful}
 use Rattle.correlator.specs.declared.state.Correlator.{Correlator}
 use Rattle.records.specs.Messages.{sent-of}
 use Rattle.correlator.specs.Posted.{posted}
-use Rattle.correlator.specs.State.{history, fed, fed-back, or-zero, Sound, Appended}
+use Rattle.counting.specs.Counting.{or-zero}
+use Rattle.correlator.specs.State.{history, fed, fed-back, Sound, Appended}
 use Rattle.correlator.proofs.Kept.{kept-length}
 
 held-low : (p : Event → Bool) (vs : List Event) (m : Option ℕ) → listOf m ≡ numbers p vs → if-given (λ e. ltb e (length vs)) m ≡ true

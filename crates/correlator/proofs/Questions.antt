@@ -38,7 +38,9 @@ use Rattle.history.specs.Answers.{Compared, Order-of, row, with-row, stamp-numb
 use Rattle.history.specs.Lawful.{Lawful}
 use Rattle.history.proofs.Passed.{passed}
 use Rattle.correlator.specs.declared.state.Correlator.{Correlator}
-use Rattle.correlator.specs.State.{history, fed, Sound, or-zero, found-at, counts, choose, order-tests, stamp-tests}
+use Rattle.counting.specs.Counting.{or-zero}
+use Rattle.counting.proofs.Rows.{row-like}
+use Rattle.correlator.specs.State.{history, fed, Sound, found-at, counts, choose, order-tests, stamp-tests}
 use Rattle.correlator.proofs.Kept.{kept-length}
 
 -- ---- what the forward clock tells of a place
@@ -126,26 +128,6 @@ module _ (vs : List Event) (orderly : Orderly vs) (x y : ℕ) where
                   ])
             ])
       ]
-
--- ---- rows
-
-pub length-row : (f : ℕ → ℕ) (n : ℕ) → length (row f n) ≡ n
-length-row f zero = refl
-length-row f (suc n) = length-append (row f n) (f (suc n) ∷ []) ∙ omega (arith, length-row f n)
-
-pub row-like : (f g : ℕ → ℕ) (n : ℕ) → ((i : ℕ) → 1 ≤ i → i ≤ n → f i ≡ g i) → row f n ≡ row g n
-row-like f g zero h = refl
-row-like f g (suc n) h = ap₂ (λ (xs : List ℕ) (y : ℕ). xs ++ (y ∷ [])) (row-like f g n (λ i l k. h i l (omega arith))) (h (suc n) (omega arith) (omega arith))
-
-set-behind : (xs ys : List ℕ) (y v : ℕ) → set (xs ++ (y ∷ ys)) (length xs) v ≡ xs ++ (v ∷ ys)
-set-behind [] ys y v = refl
-set-behind (x ∷ xs) ys y v = ap (λ (zs : List ℕ). x ∷ zs) (set-behind xs ys y v)
-
-pub row-more : (f : ℕ → ℕ) (i : ℕ) (old : List ℕ) → i < length old → set (row f i ++ drop i old) i (f (suc i)) ≡ row f (suc i) ++ drop (suc i) old
-row-more f i old low =
-    ap (λ (zs : List ℕ). set (row f i ++ zs) i (f (suc i))) (drop-cons old i 0 low)
-    ∙ subst (λ (n : ℕ). set (row f i ++ (getD old i 0 ∷ drop (suc i) old)) n (f (suc i)) ≡ row f i ++ (f (suc i) ∷ drop (suc i) old)) (length-row f i) (set-behind (row f i) (drop (suc i) old) (getD old i 0) (f (suc i)))
-    ∙ sym (append-assoc (row f i) (f (suc i) ∷ []) (drop (suc i) old))
 
 -- ---- a sound correlator's questions
 

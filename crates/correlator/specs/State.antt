@@ -20,6 +20,7 @@ use Rattle.causality.specs.Limits.{max-events, is-node}
 use Rattle.causality.specs.Traces.{node-of, partner-of, forward, backward}
 use Rattle.clock.specs.Meaning.{Meaning, taken, counted, found}
 use Rattle.clock.specs.Takes.{meaning}
+use Rattle.counting.specs.Counting.{or-zero}
 use Rattle.history.specs.declared.refusal.Refusal.{Refusal}
 use Rattle.history.specs.History.{History, no-operations, is-idle, is-open, is-closed, is-none}
 use Rattle.history.specs.Calls.{with-event, in-trace}
@@ -42,10 +43,6 @@ pub record Sound {X Y : Type 0} (f : X → Meaning) (r : Y → Meaning) (c : Cor
   pub back : r (c .reverse) ≡ fed-back (history c)
   pub lawful : Lawful (history c)
   pub posts : (m : ℕ) → sent-of (c .sent) m ≡ posted (history c .events) m
-
-abbrev pub or-zero : Option ℕ → ℕ
-or-zero None = 0
-or-zero (Some k) = k
 
 pub record Appended {X Y : Type 0} (f : X → Meaning) (c c′ : Correlator X Y) (v : Event) (m : Option ℕ) (p : Place) : Type 0 where
   pub grown : history c′ ≡ with-event (history c) v

@@ -2,7 +2,7 @@
 
 ghost use Prim.Native.Nat.{_<_};
 ghost use Rattle.causality.specs.Traces.{node-of, partner-of};
-ghost use Rattle.correlator.specs.State.{Appended, Sound, history, or-zero};
+ghost use Rattle.correlator.specs.State.{Appended, Sound, history};
 ghost use Rattle.history.specs.Answers.{Obeys, next-place};
 ghost use Rattle.history.specs.Calls.{Call};
 ghost use Rattle.history.specs.History.{idle};
@@ -14,6 +14,7 @@ use causality::MAX_NODES;
 use causality::Place;
 use clock::Clock;
 use clock::is_node;
+use counting::or_zero;
 use history::Refusal;
 use history::Stage;
 use records::Messages;
@@ -128,15 +129,5 @@ pub(crate) fn partner_of(event: Event) -> Option<u16>
         Event::Send(_, _) => None,
         Event::Receive(_, _) => None,
         Event::Meet(_, b) => Some(b),
-    }
-}
-
-// A count, or 0 where it is absent.
-pub(crate) fn or_zero(count: Option<u16>) -> u16
-    ensures { λ r. ⌜ r ≡ or-zero count ⌝ }
-{
-    match count {
-        Some(k) => k,
-        None => 0,
     }
 }

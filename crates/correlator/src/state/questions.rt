@@ -1,9 +1,8 @@
 //! Questions about the trace: the order of two events, and an event's vector timestamp.
 
 ghost use Prim.Native.Nat.{_≤_};
-ghost use Rattle.clock.specs.Meaning.{counted};
-ghost use Rattle.correlator.specs.State.{Sound, choose, counts, found-at, history, or-zero, order-tests, stamp-tests};
-ghost use Rattle.history.specs.Answers.{Obeys, Order-of, reason, stamped, with-row};
+ghost use Rattle.correlator.specs.State.{Sound, choose, counts, found-at, history, order-tests, stamp-tests};
+ghost use Rattle.history.specs.Answers.{Obeys, Order-of, reason, stamped};
 ghost use Rattle.history.specs.Calls.{Call, first-that};
 ghost use Rattle.std.specs.Vec.{made};
 ghost use Rattle.std.specs.declared.option.Option.the-variants.{Some};
@@ -11,10 +10,11 @@ ghost use lib.Dec.{eqb};
 ghost use lib.ListN.{length};
 ghost use mathlib.Core.Path.{_≡_};
 use super::Correlator;
-use super::events::or_zero;
 use causality::CausalOrder;
 use causality::Place;
 use clock::Clock;
+use counting::or_zero;
+use counting::write_counts;
 use history::Refusal;
 use history::Stage;
 
@@ -113,15 +113,5 @@ impl<F: Clock, R: Clock> Correlator<F, R> {
         ensures { λ r. ⌜ r ≡ counts (F·Clock .means (now (self .entry) .forward)) p e ⌝ }
     {
         p.index <= or_zero(self.forward.count(e, p.node))
-    }
-}
-
-// Writes the counts of an entry at the nodes 1 to n.
-fn write_counts<C: Clock>(clock: &C, e: u16, n: u16, row: &mut [u16])
-    requires { ⌜ n ≤ length (now row) ⌝ }
-    ensures { λ _. ⌜ now (row .exit) ≡ with-row n (λ i. or-zero (counted (C·Clock .means (now (clock .entry))) e i)) (now (row .entry)) ⌝ }
-{
-    for i in 0..n {
-        row[i as usize] = or_zero(clock.count(e, i + 1));
     }
 }

@@ -4,7 +4,8 @@ use borrow.Author.Needs.{needs}
 use lib.ListN.{length}
 use Rattle.history.specs.Calls.{Call}
 use Rattle.clock.specs.Meaning.{counted}
-use Rattle.correlator.specs.State.{history, or-zero}
+use Rattle.counting.specs.Counting.{or-zero}
+use Rattle.correlator.specs.State.{history}
 use Rattle.correlator.proofs.Events.{obeyed}
 use Rattle.correlator.proofs.Questions.{stamp-refusal, row-stamped, forward-count, reverse-count, reverse-closed}
 use Rattle.correlator.proofs.state.Correlator.stamp.Needs as need

@@ -6,9 +6,9 @@ use native.Mathlib.Numerals.{add-one}
 use lib.ListN.{length, set}
 use Rattle.clock.specs.Meaning.{counted}
 use Rattle.history.specs.Answers.{with-row}
-use Rattle.correlator.specs.State.{or-zero}
-use Rattle.correlator.proofs.Questions.{row-more}
-use Rattle.correlator.proofs.state.questions.write_counts.Needs as need
+use Rattle.counting.specs.Counting.{or-zero}
+use Rattle.counting.proofs.Rows.{row-more}
+use Rattle.counting.proofs.write_counts.Needs as need
 
 pub loop-i-again : need.loop-i-again
 loop-i-again g c =
