@@ -1,15 +1,19 @@
 //! Rows of counts, got from a clock.
 
-ghost use Prim.Native.Nat.{_≤_};
+ghost use Prim.Native.Nat.{_≤_, max, min};
 ghost use Rattle.clock.specs.Meaning.{counted};
-ghost use Rattle.counting.specs.Counting.{or-zero, count-row};
+ghost use Rattle.counting.specs.Counting.{Joint, count-row, or-zero};
 ghost use Rattle.gathering.specs.Gathering.{joined-all};
 ghost use Rattle.history.specs.Answers.{with-row};
 ghost use lib.ListN.{drop, length, take};
 ghost use mathlib.Core.List.{_++_, map};
 ghost use mathlib.Core.Path.{_≡_};
 use clock::Clock;
+use gathering::Greatest;
+use gathering::GreatestRow;
 use gathering::Joining;
+use gathering::Least;
+use gathering::LeastRow;
 use gathering::ROW;
 use gathering::Row;
 use gathering::gather;
@@ -64,4 +68,20 @@ pub fn joint_row<C: Clock, J: Joining<Row>>(clock: &C, entries: &[u16]) -> Optio
     let mut rows = [Row { counts: [0; ROW] }; MAX_ROWS];
     rows_of(clock, entries, &mut rows);
     gather::<Row, J>(&rows[0..entries.len()])
+}
+
+/// The least counts of some entries, node by node; none of no entries.
+pub fn least_counts<C: Clock>(clock: &C, entries: &[u16]) -> Option<Row>
+    requires { ⌜ length (now entries) ≤ 512 ⌝ }
+    ensures { λ r. ⌜ Joint min (C·Clock .means (now (clock .entry))) (now (entries .entry)) r ⌝ }
+{
+    joint_row::<C, Least>(clock, entries)
+}
+
+/// The greatest counts of some entries, node by node; none of no entries.
+pub fn greatest_counts<C: Clock>(clock: &C, entries: &[u16]) -> Option<Row>
+    requires { ⌜ length (now entries) ≤ 512 ⌝ }
+    ensures { λ r. ⌜ Joint max (C·Clock .means (now (clock .entry))) (now (entries .entry)) r ⌝ }
+{
+    joint_row::<C, Greatest>(clock, entries)
 }

@@ -26,7 +26,7 @@ module _ {X : Type 0} (op : X → X → X) where
 -- ---- an associative joining may be grouped in any way
 
 module _ {X : Type 0} (op : X → X → X) (associative : (x y z : X) → op (op x y) z ≡ op x (op y z)) where
-  folded-out : (z y : X) (ys : List X) → folded op (op z y) ys ≡ op z (folded op y ys)
+  pub folded-out : (z y : X) (ys : List X) → folded op (op z y) ys ≡ op z (folded op y ys)
   folded-out z y [] = refl
   folded-out z y (w ∷ ws) = ap (λ v. folded op v ws) (associative z y w) ∙ folded-out z (op y w) ws
 

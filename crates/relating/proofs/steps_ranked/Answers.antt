@@ -1,0 +1,5 @@
+use Rattle.relating.proofs.steps_ranked.Needs as need
+use Rattle.relating.proofs.Steps.{steps-bounded}
+
+pub returns : need.returns
+returns c = steps-bounded
