@@ -8,10 +8,10 @@ ghost use Rattle.causality.specs.Limits.{is-node};
 ghost use Rattle.clock.specs.Meaning.{Meaning, blank, begins, begun, if-given, admits, taken, number, counted, found, Own, Through, Earliest, No-higher};
 ghost use Rattle.clock.specs.Takes.{Meanings-grow, Meanings-answer, Meanings-lawful, Counts-are-chains};
 
-/// The most nodes of a clock.
-pub const MAX_NODES: u16 = 16;
-/// The most entries of a clock.
-pub const MAX_ENTRIES: u16 = 512;
+/// The most nodes of a clock: those of a trace.
+pub const MAX_NODES: u16 = causality::MAX_NODES;
+/// The most entries of a clock: one for each event of a trace.
+pub const MAX_ENTRIES: u16 = causality::MAX_EVENTS;
 
 /// A logical clock: nodes counted from 1, and entries counted from 0, each at one node or two, with its causal past.
 pub trait Clock: Sized {
