@@ -6,7 +6,7 @@ use mathlib.Core.Logic.{inl, inr}
 use Prim.Native.Nat.{ℕ, suc}
 use native.Mathlib.Omega.{arith}
 use Rattle.std.proofs.shelf.Tests.{cases-bool, true≢false, false≢true}
-use Rattle.relating.specs.Walks.{one-more, every-walk, some-walk, is-every, Ranked, Steps-bounded}
+use Rattle.relating.specs.Walks.{one-more, every-walk, some-walk, is-every, Ranked, Steps-ranked}
 
 other-way : (b : Bool) → b ≡ not b → ⊥
 other-way true e = true≢false e
@@ -47,5 +47,5 @@ some-ranked [] = ranked-none true
 some-ranked (true ∷ bs) = ranked-here true bs
 some-ranked (false ∷ bs) = ranked-more true bs (some-walk bs) (some-ranked bs)
 
-pub steps-bounded : Steps-bounded
-steps-bounded r vs n x xs y ys = elim (cases-bool (is-every r)) [ inl h ↦ rw h (every-ranked _) | inr h ↦ rw h (some-ranked _) ]
+pub steps-ranked : Steps-ranked
+steps-ranked r vs n x xs y ys = elim (cases-bool (is-every r)) [ inl h ↦ rw h (every-ranked _) | inr h ↦ rw h (some-ranked _) ]

@@ -110,7 +110,7 @@ pub record Ranked (stop : Bool) (bs : List Bool) (answer : Bool × ℕ) : Type 0
   pub stopped : answer .0 ≡ stop → (before : List Bool) × (after : List Bool) × (bs ≡ before ++ (stop ∷ after)) × All (λ b. b ≡ not stop) before × (answer .1 ≡ suc (length before))
 
 -- an "every" test stops at the first comparison that is false, a "some" test at the first that is true
-abbrev pub Steps-bounded : Type 0
-Steps-bounded =
+abbrev pub Steps-ranked : Type 0
+Steps-ranked =
     (r : ℕ) (vs : List Event) (n x : ℕ) (xs : List ℕ) (y : ℕ) (ys : List ℕ) →
     Ranked (not (is-every r)) (compared r vs n x xs y ys) (walk r vs n x xs y ys)

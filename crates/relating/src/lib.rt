@@ -4,7 +4,7 @@
 //! does nothing, so that the crate is proved only if the theorem is.
 
 ghost use Rattle.relating.specs.Worked.{Worked-walks};
-ghost use Rattle.relating.specs.Walks.{Walks-decide, Steps-bounded};
+ghost use Rattle.relating.specs.Walks.{Walks-decide, Steps-ranked};
 ghost use Rattle.relating.specs.Agreements.{Walks-agree};
 
 /// The verdict of each walk is the relation, over all pairs of members.
@@ -14,7 +14,7 @@ pub fn walks_decide()
 
 /// The steps of a walk are the rank of the comparison that decided it, or all comparisons if none did.
 pub fn steps_ranked()
-    ensures { λ _. ⌜ Steps-bounded ⌝ }
+    ensures { λ _. ⌜ Steps-ranked ⌝ }
 {}
 
 /// Equal columns and sets of the same places give the same answers, whatever the order of arrival.

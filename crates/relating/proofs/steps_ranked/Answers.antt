@@ -1,5 +1,5 @@
 use Rattle.relating.proofs.steps_ranked.Needs as need
-use Rattle.relating.proofs.Steps.{steps-bounded}
+use Rattle.relating.proofs.Steps.{steps-ranked}
 
 pub returns : need.returns
-returns c = steps-bounded
+returns c = steps-ranked
