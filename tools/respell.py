@@ -15,6 +15,7 @@ import sys
 HEAD = re.compile(r"^(\s*)(?:abbrev pub |unfoldable pub |pub |abbrev |unfoldable )?([^\s(){},;.:]+)((?: \{?\(?[^:=]*\)?\}?)?) : (.*)$")
 TYPE = re.compile(r"^\s*(?:pub )?(?:record|data) ([^\s(){},;.:]+)")
 TOKEN = re.compile(r"[^\s(){}\[\],;.:`\"]+")
+FACTS = set()
 STD = set("length take drop map append reverse get_or set sum has filter all replicate cond min max sub add nth mem".split())
 
 
@@ -47,6 +48,8 @@ def definitions(p):
             continue
         m = HEAD.match(line)
         if m and not re.match(r"(?:goal|given|need)\.", m[4]) and m[2] not in ("let", "λ", "use", "where"):
+            if m[4].endswith("Type 0"):
+                FACTS.add(m[2])
             yield m[2]
 
 
@@ -68,13 +71,13 @@ def spelling(name, defined, lemma):
     if name[:1].isupper():
         # a fact; a lemma of a fact, as All-append, keeps its dash
         head, _, rest = name.partition("-")
-        return camel(name) if not lemma or not rest else name
+        return camel(name) if not lemma or name in FACTS or not rest else name
     if name.startswith("getD-"):
         name = "get_or-" + name[5:]
     parts = name.split("-")
     for i in range(1, len(parts)):
         left, right = "_".join(parts[:i]), "_".join(parts[i:])
-        if left in STD and right in defined or lemma and left in defined and right in defined:
+        if right in defined and (left in ("length", "get_or") or lemma and left in defined):
             return left + "-" + right
     return snake(name)
 

@@ -36,7 +36,7 @@ stamps-agree h k lawful lawful' same opens p d len old =
         let place' = (named-place k p x' e').1 in
         let agrees = columns_decide h.events k.events orderly orderly' (equal_columns h k lawful lawful' same)
         p.node p.index x x' p.node p.index x x' place place' place place' in
-        same-with_row h.nodes k.nodes same.nodes (stamp_number h d x) (stamp_number k d x') (λ i. ap₂ (cond (eqb d 1)) (agrees.stamps i) (agrees.reverse-stamps i)) old
+        same-with_row h.nodes k.nodes same.nodes (stamp_number h d x) (stamp_number k d x') (λ i. ap₂ (cond (eqb d 1)) (agrees.stamps i) (agrees.reverse_stamps i)) old
 
 pub cuts-agree : CutsAgree
 cuts-agree h k lawful lawful' same closed closed' X X' o w len old =

@@ -1,4 +1,5 @@
 //! The lines of an answer: each function writes one from `at` on and gives the place behind it.
+#![tactic(auto)]
 
 ghost use Rattle.std.specs.Prelude.{◌≡◌, ◌+◌, ◌<◌, ◌≤◌, [], ◌∷◌, ◌++◌, length, decimal};
 ghost use Rattle.answer_lines.specs.Output.{Wrote, order_line, refused_line, refused_text, verdict_line, word, yes_or_no};

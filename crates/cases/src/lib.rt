@@ -1,4 +1,5 @@
 //! Cases that are run: clocks, traces and job texts, on every make of clock.
+#![tactic(auto)]
 
 #[cfg(test)]
 mod clocks;

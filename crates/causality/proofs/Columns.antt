@@ -2,17 +2,17 @@
 --
 -- Events of two traces are twins if they have a place in common. Twins have all places in common, and links lead from twins to
 -- twins; so chains do.
-use Rattle.std.proofs.Common.{◌≡◌, ℕ, suc, ◌-◌, ◌<◌, ◌≤◌, Bool, true, false, cond, ◌||◌, eqb, ◌⊎◌, List, [], ◌∷◌, ◌++◌, reverse, length, Some, None, Option, sym, refl, ap, ◌∙◌, subst, inl, inr, arith}
+use Rattle.std.proofs.Common.{◌≡◌, ℕ, suc, ◌-◌, ◌<◌, Bool, true, false, ◌||◌, eqb, List, [], ◌∷◌, ◌++◌, reverse, length, Some, None, Option, sym, refl, ap, ◌∙◌, subst, inl, inr, arith}
 use mathlib.Core.List.{reverse-reverse}
 use Rattle.std.proofs.lemmas.List.{length-reverse}
-use Rattle.std.proofs.lemmas.Bool.{cases_Bool, cases_eq, eqb-true, eqb-false, eq-eqb, or_cases, or_left, or_right, false≢true}
+use Rattle.std.proofs.lemmas.Bool.{cases_eq, eqb-true, eq-eqb, or_cases, or_left, false≢true}
 use Rattle.std.proofs.lemmas.Bool.Decides.{same_from_decides, Decides-like, nat_tests}
 use Rattle.causality.specs.declared.Event.{Event}
 use Rattle.causality.specs.Newest.{entry, kth, picked, tally}
 use Rattle.causality.specs.Entries.{past, Chain, Chain.one, Chain.more}
-use Rattle.causality.specs.Traces.{node_of, sends, receives, both, from, into, stands, events_at, Link, Before, Orderly, forward, backward, mirror}
+use Rattle.causality.specs.Traces.{node_of, sends, receives, both, from, into, stands, events_at, Link, Orderly, forward, backward, mirror}
 use Rattle.causality.specs.Relations.{To, fore, aft}
-use Rattle.causality.specs.Columns.{Record, other, next_index, recorded, column, PlaceOf, EqualColumns, Agreement, ColumnsDecide}
+use Rattle.causality.specs.Columns.{Record, other, next_index, recorded, column, PlaceOf, EqualColumns, ColumnsDecide}
 use Rattle.causality.proofs.Newest.{entry_head, entry-low, entry_up, entry-some, entry-mem, kth-entry, entry-kth, entry_split, entry_middle, entry-once, length-picked, picked_split, numbers_out, numbers-low, numbers_descend, numbers_turned, tally-reverse}
 use Rattle.causality.proofs.Traces.{timeline-events, mirrored, past_is_before}
 
@@ -239,5 +239,5 @@ columns_decide vs ws orderly orderly' same i k x x' j l y y' px px' py py' = rec
   pasts = pasts-agree vs ws orderly orderly' same i k x x' j l y y' px px' py py';
   futures = futures-agree vs ws orderly orderly' same i k x x' j l y y' px px' py py';
   stamps = stamps-agree vs ws orderly orderly' same j l y y' py py';
-  reverse-stamps = reverse_stamps-agree vs ws orderly orderly' same j l y y' py py';
+  reverse_stamps = reverse_stamps-agree vs ws orderly orderly' same j l y y' py py';
 }

@@ -1,11 +1,11 @@
 -- Counts tell what a cut holds, and how the timestamp of a new entry comes from earlier ones.
-use Rattle.std.proofs.Common.{◌≡◌, ℕ, suc, ◌-◌, ◌<◌, ◌≤◌, max, Bool, true, false, cond, ◌||◌, eqb, ◌⊎◌, List, [], ◌∷◌, ◌++◌, length, Some, None, Decides, sym, refl, ap, ◌∙◌, subst, inl, inr, arith}
+use Rattle.std.proofs.Common.{◌≡◌, ℕ, suc, ◌-◌, ◌<◌, ◌≤◌, max, Bool, true, false, ◌||◌, List, [], ◌∷◌, length, Some, Decides, refl, ap, ◌∙◌, inl, inr, arith}
 use Rattle.std.specs.List.{AllByRecursion as All}
 use Rattle.std.proofs.ByRecursion.{All-weaker}
-use Rattle.std.proofs.lemmas.Bool.{cases_Bool, ne_eqb, or_left, or_right, or_from, or_cases, both_ways, false≢true}
+use Rattle.std.proofs.lemmas.Bool.{cases_Bool, ne_eqb, or_left, or_right, or_cases, both_ways, false≢true}
 use Rattle.causality.specs.Newest.{entry, tally, Mem}
-use Rattle.causality.specs.Entries.{Entry, at_either, timeline, predecessors, in_some, past, PastLaws, at, Cut, CountsTell, stamp, StampsTell, greatest, next_stamp, StampsGrow}
-use Rattle.causality.proofs.Newest.{nothing, entry-low, entry_head, entry_cases, all-entry, kth-entry, Descending, numbers_descend}
+use Rattle.causality.specs.Entries.{Entry, at_either, timeline, predecessors, in_some, past, Cut, CountsTell, stamp, StampsTell, greatest, next_stamp, StampsGrow}
+use Rattle.causality.proofs.Newest.{nothing, entry-low, entry_cases, all-entry, kth-entry, Descending, numbers_descend}
 use Rattle.causality.proofs.Pasts.{at_up, at_low, at_top, past-tail, past_head, pasts-lawful}
 
 -- ---- counting the numbers that pass a test

@@ -1,11 +1,11 @@
 -- An event's index at its own nodes is its timestamp there.
-use Rattle.std.proofs.Common.{◌≡◌, ℕ, suc, ◌<◌, ◌≤◌, true, false, List, length, Some, None, Option, sym, refl, ap, ◌∙◌, inl, inr, arith}
+use Rattle.std.proofs.Common.{◌≡◌, ℕ, suc, ◌≤◌, false, List, length, Some, None, Option, sym, refl, ap, ◌∙◌, inl, inr, arith}
 use Rattle.std.proofs.lemmas.Bool.{cases_Bool, cases_lt, both_ways}
 use Rattle.causality.specs.declared.Event.{Event}
 use Rattle.causality.specs.Newest.{entry}
 use Rattle.causality.specs.Entries.{timeline, past}
 use Rattle.causality.specs.Traces.{from, stands, events_at, forward}
-use Rattle.causality.specs.Relations.{position, index, fore, IndexIsStamp}
+use Rattle.causality.specs.Relations.{index, fore, IndexIsStamp}
 use Rattle.causality.proofs.Newest.{entry-low, entry-some, entry-mem, entry-order, numbers_in, numbers_out, numbers_descend}
 use Rattle.causality.proofs.Pasts.{pasts-lawful}
 use Rattle.causality.proofs.Counts.{stamps_tell, tally_le}

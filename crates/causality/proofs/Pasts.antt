@@ -1,10 +1,10 @@
 -- A past is what chains of edges lead to, and so the four laws hold of it.
-use Rattle.std.proofs.Common.{◌≡◌, ℕ, ◌<◌, ◌≤◌, Bool, true, false, cond, ◌||◌, eqb, ◌⊎◌, List, [], ◌∷◌, ◌++◌, length, Some, None, Option, sym, refl, ap, ◌∙◌, subst, inl, inr, arith}
+use Rattle.std.proofs.Common.{◌≡◌, ℕ, ◌<◌, ◌≤◌, Bool, true, ◌||◌, eqb, List, [], ◌∷◌, ◌++◌, length, Some, None, Option, sym, refl, ap, ◌∙◌, subst, inl, inr, arith}
 use Rattle.std.specs.Option.{option_to_list}
-use Rattle.std.proofs.lemmas.Bool.{cases_Bool, cases_eq, eqb-true, eq-eqb, ne_eqb, or_cases, or_left, or_right, both_ways, false≢true}
-use Rattle.causality.specs.Newest.{entry, numbers, Mem}
-use Rattle.causality.specs.Entries.{Entry, is, at_either, timeline, newest, latest, predecessors, in_some, past, Together, Follows, Edge, Chain, Chain.one, Chain.more, Reach, PastIsReach, PastLaws, PastsLawful}
-use Rattle.causality.proofs.Newest.{nothing, entry_head, entry-tail, entry-low, entry_up, numbers_up, numbers_down, numbers_out, numbers_in, numbers-low, any_left, any_right, any_cases}
+use Rattle.std.proofs.lemmas.Bool.{cases_Bool, cases_eq, eqb-true, eq-eqb, ne_eqb, or_cases, or_left, or_right, false≢true}
+use Rattle.causality.specs.Newest.{Mem}
+use Rattle.causality.specs.Entries.{Entry, is, at_either, timeline, newest, latest, predecessors, in_some, past, Edge, Chain, Chain.one, Chain.more, Reach, PastIsReach, PastsLawful}
+use Rattle.causality.proofs.Newest.{entry_head, entry-tail, entry-low, entry_up, numbers_up, numbers_down, numbers_out, numbers-low, any_left, any_right, any_cases}
 use Rattle.causality.proofs.Chains.{chain_join, chain_map, last_step}
 
 -- ---- edges, with one more entry and with one less

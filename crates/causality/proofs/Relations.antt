@@ -1,15 +1,15 @@
 -- The six relations by their cuts.
-use Rattle.std.proofs.Common.{◌≡◌, ℕ, suc, ◌+◌, ◌-◌, ◌<◌, ◌≤◌, min, max, Bool, true, false, eqb, ◌⊎◌, ◌↔◌, List, [], ◌∷◌, reverse, length, Some, None, Decides, Option, sym, refl, ap, ◌∙◌, inl, inr, arith}
+use Rattle.std.proofs.Common.{◌≡◌, ℕ, suc, ◌+◌, ◌-◌, ◌<◌, ◌≤◌, min, max, Bool, eqb, ◌⊎◌, List, [], ◌∷◌, reverse, length, Some, None, Option, refl, ◌∙◌, inl, inr, arith}
 use Rattle.std.specs.List.{AllByRecursion as All}
 use Rattle.std.proofs.ByRecursion.{All-weaker}
 use Rattle.std.proofs.lemmas.Bool.{cases_Bool, cases_lt, eq-eqb, eqb-false, or_left}
 use Rattle.std.proofs.lemmas.Bool.Decides.{nat_tests}
 use Rattle.causality.specs.declared.Event.{Event}
-use Rattle.causality.specs.Newest.{entry, kth, Mem}
-use Rattle.causality.specs.Entries.{past, at}
+use Rattle.causality.specs.Newest.{entry, Mem}
+use Rattle.causality.specs.Entries.{at}
 use Rattle.causality.specs.Traces.{node_of, from, into, stands, events_at, Orderly, entries, forward, backward, mirror}
-use Rattle.causality.specs.Relations.{To, joined, merged, joined_if, position, index, first_at, last_at, fore, aft, from_end, joint_past, whole_past, first_reach, joint_reach, CutsOf, CutsTell, Six, RelationsByCuts, IndexedNodes}
-use Rattle.causality.proofs.Newest.{nothing, entry-some, entry-low, entry_head, entry-mem, entry_up, entry-kth, numbers_in, numbers-low, numbers_turned, length-picked}
+use Rattle.causality.specs.Relations.{To, merged, joined_if, position, index, fore, aft, from_end, CutsTell, RelationsByCuts, IndexedNodes}
+use Rattle.causality.proofs.Newest.{nothing, entry-some, entry-low, entry-mem, entry_up, entry-kth, numbers_in, numbers-low, numbers_turned, length-picked}
 use Rattle.causality.proofs.Counts.{stamps_tell}
 use Rattle.causality.proofs.Traces.{timeline-events, past_is_before, future_is_after}
 use Rattle.causality.proofs.Sets.{Meets, Joins, Measures, every_node, some-node, to_all, to_any}

@@ -3,7 +3,7 @@
 -- An event stands at one place or more: index i x is its place at node i, if it stands there. R i k c compares a place k at
 -- node i with a number c, as k ≤ c for a past. Where the comparison tells what stands in relation T to each member of a set,
 -- the least or the greatest number of the members tells what stands so to all of them, or to some.
-use Rattle.std.proofs.Common.{◌≡◌, ℕ, ◌-◌, ◌≤◌, min, max, ◌⊎◌, ◌↔◌, List, [], ◌∷◌, Some, None, Option, refl, subst, inl, inr, arith}
+use Rattle.std.proofs.Common.{◌≡◌, ℕ, ◌⊎◌, ◌↔◌, List, [], ◌∷◌, Some, None, Option, refl, subst, inl, inr}
 use Rattle.std.specs.List.{AllByRecursion as All}
 use Rattle.causality.specs.Newest.{Any, Mem}
 use Rattle.causality.specs.Relations.{joined, merged, joined_if, AtEvery, AtSome}
@@ -39,20 +39,20 @@ module _ (P : ℕ → Type 0) (f : ℕ → ℕ → ℕ) (Q : ℕ → Type 0) (of
 
 -- ---- the places at one node, joined
 
-abbrev If-all : (ℕ → Type 0) → Option ℕ → Type 0
-If-all P o = (k : ℕ) → o ≡ Some k → P k
+abbrev IfAll : (ℕ → Type 0) → Option ℕ → Type 0
+IfAll P o = (k : ℕ) → o ≡ Some k → P k
 
-abbrev If-any : (ℕ → Type 0) → Option ℕ → Type 0
-If-any P o = (k : ℕ) × (o ≡ Some k) × P k
+abbrev IfAny : (ℕ → Type 0) → Option ℕ → Type 0
+IfAny P o = (k : ℕ) × (o ≡ Some k) × P k
 
 module _ (P : ℕ → Type 0) (f : ℕ → ℕ → ℕ) where
-  if_all_some : (k : ℕ) → P k → If-all P (Some k)
+  if_all_some : (k : ℕ) → P k → IfAll P (Some k)
   if_all_some k h j e = let same : k ≡ j = cc in subst P same h
 
-  if_any_some : (k : ℕ) → If-any P (Some k) → P k
+  if_any_some : (k : ℕ) → IfAny P (Some k) → P k
   if_any_some k (j, e, h) = let same : j ≡ k = cc in subst P same h
 
-  all-merged : Meets P f → (o p : Option ℕ) → If-all P (merged f o p) ↔ (If-all P o × If-all P p)
+  all-merged : Meets P f → (o p : Option ℕ) → IfAll P (merged f o p) ↔ (IfAll P o × IfAll P p)
   all-merged m None p = ((λ h. ((λ k e. absurd (nothing e)), h)), λ h. h.1)
   all-merged m (Some k) None = ((λ h. (h, λ j e. absurd (nothing e))), λ h. h.0)
   all-merged m (Some k) (Some j) = (
@@ -60,7 +60,7 @@ module _ (P : ℕ → Type 0) (f : ℕ → ℕ → ℕ) where
     λ (a, b). if_all_some (f k j) ((m k j).1 (a k refl, b j refl)),
   )
 
-  any_merged : Joins P f → (o p : Option ℕ) → If-any P (merged f o p) ↔ (If-any P o ⊎ If-any P p)
+  any_merged : Joins P f → (o p : Option ℕ) → IfAny P (merged f o p) ↔ (IfAny P o ⊎ IfAny P p)
   any_merged m None p = ((λ h. inr h), λ h. elim h [ inl (k, e, _) ↦ absurd (nothing e) | inr b ↦ b ])
   any_merged m (Some k) None = ((λ h. inl h), λ h. elim h [ inl a ↦ a | inr (j, e, _) ↦ absurd (nothing e) ])
   any_merged m (Some k) (Some j) = (
@@ -83,7 +83,7 @@ module _ (index : ℕ → ℕ → Option ℕ) (R : ℕ → ℕ → ℕ → Type 
     every_node m [] placed = ((λ _ i k e. absurd (nothing e)), λ _. tt)
     every_node m (x ∷ xs) ((i, k, e), placed) =
         let rec = every_node m xs placed in
-        let both : (j : ℕ) → If-all (λ n. R j n (c j)) (joined_if f (index j) (x ∷ xs)) ↔ (If-all (λ n. R j n (c j)) (index j x) × If-all (λ n. R j n (c j)) (joined_if f (index j) xs)) = λ j.
+        let both : (j : ℕ) → IfAll (λ n. R j n (c j)) (joined_if f (index j) (x ∷ xs)) ↔ (IfAll (λ n. R j n (c j)) (index j x) × IfAll (λ n. R j n (c j)) (joined_if f (index j) xs)) = λ j.
         all-merged (λ n. R j n (c j)) f (m j (c j)) (index j x) (joined_if f (index j) xs) in (
           (λ h j. (both j).1 ((λ n g. (measures x j n g).0 h.0), rec.0 h.1 j)),
           λ g. ((measures x i k e).1 (((both i).0 (g i)).0 k e), rec.1 (λ j. ((both j).0 (g j)).1)),
@@ -93,7 +93,7 @@ module _ (index : ℕ → ℕ → Option ℕ) (R : ℕ → ℕ → ℕ → Type 
     some-node m [] placed = ((λ h. absurd h), λ h. absurd (nothing h.2))
     some-node m (x ∷ xs) ((i, k, e), placed) =
         let rec = some-node m xs placed in
-        let either : (j : ℕ) → If-any (λ n. R j n (c j)) (joined_if f (index j) (x ∷ xs)) ↔ (If-any (λ n. R j n (c j)) (index j x) ⊎ If-any (λ n. R j n (c j)) (joined_if f (index j) xs)) = λ j.
+        let either : (j : ℕ) → IfAny (λ n. R j n (c j)) (joined_if f (index j) (x ∷ xs)) ↔ (IfAny (λ n. R j n (c j)) (index j x) ⊎ IfAny (λ n. R j n (c j)) (joined_if f (index j) xs)) = λ j.
         any_merged (λ n. R j n (c j)) f (m j (c j)) (index j x) (joined_if f (index j) xs) in (
           (λ h. elim h [
             | inl a ↦ let (n, g, r) = (either i).1 (inl (k, e, (measures x i k e).0 a)) in (i, n, g, r)

@@ -1,13 +1,13 @@
 -- The edges of the entries that a clock takes are the links of the trace, and taken backwards they are turned round.
-use Rattle.std.proofs.Common.{◌≡◌, ℕ, zero, suc, ◌-◌, ◌<◌, ◌≤◌, Bool, true, false, ◌⊎◌, List, [], ◌∷◌, reverse, length, Some, None, Decides, Option, sym, refl, ap, ◌∙◌, subst, subst₂, inl, inr, arith}
+use Rattle.std.proofs.Common.{◌≡◌, ℕ, zero, suc, ◌-◌, ◌<◌, Bool, true, ◌⊎◌, List, [], ◌∷◌, reverse, length, Some, None, Decides, Option, sym, refl, ap, ◌∙◌, subst, subst₂, inl, inr, arith}
 use mathlib.Core.List.{reverse-reverse}
 use Rattle.std.proofs.lemmas.List.{length-reverse}
-use Rattle.std.proofs.lemmas.Bool.{cases_eq, cases_order, eqb-true, eq-eqb, or_left, or_right, both_ways, false≢true}
+use Rattle.std.proofs.lemmas.Bool.{cases_eq, cases_order, eqb-true, or_right, both_ways, false≢true}
 use Rattle.std.proofs.lemmas.Bool.Decides.{same_from_decides, Decides-at}
 use Rattle.causality.specs.declared.Event.{Event}
-use Rattle.causality.specs.Newest.{entry, kth, numbers, Mem}
+use Rattle.causality.specs.Newest.{entry, numbers, Mem}
 use Rattle.causality.specs.Entries.{Entry, is, timeline, past, Follows, Edge, Chain, Chain.one, Chain.more, Reach}
-use Rattle.causality.specs.Traces.{node_of, partner_of, sends, receives, both, from, into, stands, events_at, Next, Message, Link, Before, Orderly, entries, forward, backward, mirror, PastIsBefore, FutureIsAfter, Mirrored, was_sent, Accepted, AcceptedIsOrderly}
+use Rattle.causality.specs.Traces.{node_of, partner_of, sends, receives, both, from, into, stands, events_at, Message, Link, Before, Orderly, entries, forward, backward, mirror, Mirrored, was_sent, Accepted, AcceptedIsOrderly}
 use Rattle.causality.proofs.Newest.{nothing, entry_head, entry-low, entry_up, entry_cases, entry-some, entry-mem, mem-entry, kth-entry, entry-kth, entry-order, numbers_out, numbers_in, numbers-low, numbers_descend, entry_turned, Descending}
 use Rattle.causality.proofs.Chains.{chain_each, chain_map, chain_turn}
 use Rattle.causality.proofs.Pasts.{chain_low, past_reach, reach_past, past_is_reach}

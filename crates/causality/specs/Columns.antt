@@ -45,7 +45,7 @@ pub record Agreement (vs ws : List Event) (x x' y y' : ℕ) : Type 0 where
   pub pasts : past (forward vs) y x ≡ past (forward ws) y' x'
   pub futures : past (backward vs) (mirror vs x) (mirror vs y) ≡ past (backward ws) (mirror ws x') (mirror ws y')
   pub stamps : (i : ℕ) → fore vs y i ≡ fore ws y' i
-  pub reverse-stamps : (i : ℕ) → aft vs y i ≡ aft ws y' i
+  pub reverse_stamps : (i : ℕ) → aft vs y i ≡ aft ws y' i
 
 abbrev pub ColumnsDecide : Type 0
 ColumnsDecide =

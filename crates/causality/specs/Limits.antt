@@ -2,11 +2,11 @@
 use Rattle.std.specs.Prelude.{ℕ, Bool, ◌&&◌, nat_le}
 use Rattle.causality.specs.declared.Relation.{Relation}
 
-abbrev pub max-nodes : ℕ
-max-nodes = 16
+abbrev pub max_nodes : ℕ
+max_nodes = 16
 
-abbrev pub max-events : ℕ
-max-events = 512
+abbrev pub max_events : ℕ
+max_events = 512
 
 -- the nodes of a trace are numbered 1 to n
 abbrev pub is_node : ℕ → ℕ → Bool

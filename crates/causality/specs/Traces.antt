@@ -13,7 +13,7 @@
 --   forward, backward  the entries that the two clocks take
 --   mirror vs x        the number of event x counted from the end
 --   Orderly vs         no message is received before it is sent
-use Rattle.std.specs.Prelude.{◌≡◌, ℕ, suc, ◌-◌, ◌<◌, Bool, true, false, ◌||◌, ◌⊎◌, List, [], ◌∷◌, reverse, length, Some, None, Decides, Option}
+use Rattle.std.specs.Prelude.{◌≡◌, ℕ, suc, ◌-◌, ◌<◌, Bool, true, false, ◌⊎◌, List, [], ◌∷◌, reverse, length, Some, None, Decides, Option}
 use Rattle.causality.specs.declared.Event.{Event}
 use Rattle.causality.specs.Newest.{entry, kth, numbers, has}
 use Rattle.causality.specs.Entries.{Entry, is, at_either, past, Chain}

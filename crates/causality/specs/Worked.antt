@@ -1,14 +1,14 @@
 -- A worked trace of three nodes with an overtaking message and a meet, and what the definitions compute of it.
 --
 --   node 1: local, send 7, local    node 2: send 8, meet with 3    node 3: receive 7, receive 8, meet with 2, local
-use Rattle.std.specs.Prelude.{◌≡◌, ℕ, false, List, [], ◌∷◌, map, Some, None, Option}
+use Rattle.std.specs.Prelude.{◌≡◌, ℕ, false, List, [], ◌∷◌, map, Some, Option}
 use Rattle.std.specs.Option.{option_map}
 use Rattle.causality.specs.declared.Event.{Event}
 use Rattle.causality.specs.Newest.{kth}
 use Rattle.causality.specs.Entries.{past}
 use Rattle.causality.specs.Traces.{events_at, forward}
 use Rattle.causality.specs.Relations.{fore, aft, first_reach, joint_reach}
-use Rattle.causality.specs.Columns.{column, Record}
+use Rattle.causality.specs.Columns.{column}
 
 abbrev pub worked : List Event
 worked =

@@ -2,6 +2,7 @@
 //!
 //! The definitions and statements are in `specs/`: start with `Traces.antt`. Each theorem is the contract of a function in
 //! `theorems`, so that the crate is proved only if the theorem is.
+#![tactic(auto)]
 
 ghost use Rattle.causality.specs.Limits.{is_relation, relation_number};
 ghost use Rattle.causality.specs.Traces.{node_of, partner_of};

@@ -59,10 +59,10 @@ meanings_lawful n ts =
     }
 
 -- s holds the entries of some takes
-abbrev pub Of-takes : Meaning → Type 0
-Of-takes s = ∥ ((ts : List Entry) × (s.entries ≡ entries_of ts)) ∥₁
+abbrev pub OfTakes : Meaning → Type 0
+OfTakes s = ∥ ((ts : List Entry) × (s.entries ≡ entries_of ts)) ∥₁
 
-pub takes_lawful : (s : Meaning) → Of-takes s → Laws s
+pub takes_lawful : (s : Meaning) → OfTakes s → Laws s
 takes_lawful s of =
     let laws : (ts : List Entry) → s.entries ≡ entries_of ts → Laws s =
     λ ts same. subst Laws (λ i. record { nodes = s.nodes; entries = sym same i }) (meanings_lawful s.nodes ts) in

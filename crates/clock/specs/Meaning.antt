@@ -12,13 +12,13 @@
 --   taken, number  what a take leaves, and what it answers; begun and begins likewise
 use Rattle.std.specs.Prelude.{◌≡◌, ℕ, ◌<◌, ◌≤◌, Bool, true, false, cond, not, ◌&&◌, ◌||◌, ltb, List, [], ◌∷◌, ◌++◌, length, Some, None, Option, ◌==◌, nat_le, nat_lt}
 use Rattle.std.specs.Option.{option_to_list}
-use Rattle.causality.specs.Limits.{max-nodes, max-events, is_node}
+use Rattle.causality.specs.Limits.{max_nodes, max_events, is_node}
 use Rattle.causality.specs.Newest.{numbers, kth, tally, Mem}
 use Rattle.causality.specs.Entries.{Entry, is, at_either, newest, in_some}
 
 -- a clock holds as many entries as a trace has events
-abbrev pub max-entries : ℕ
-max-entries = max-events
+abbrev pub max_entries : ℕ
+max_entries = max_events
 
 pub record Held : Type 0 where
   pub node : ℕ
@@ -63,7 +63,7 @@ asked a b m = record { node = a; partner = b; priors = option_to_list m }
 -- ---- what a clock accepts
 
 abbrev pub begins : ℕ → Bool
-begins n = nat_le 1 n && nat_le n max-nodes
+begins n = nat_le 1 n && nat_le n max_nodes
 
 -- what is given, if anything, passes
 abbrev pub if_given : (ℕ → Bool) → Option ℕ → Bool
@@ -72,7 +72,7 @@ if_given p (Some i) = p i
 
 -- n nodes and len entries accept an entry at a and b that follows m
 abbrev pub admits : ℕ → ℕ → ℕ → Option ℕ → Option ℕ → Bool
-admits n len a b m = nat_lt len max-entries && (is_node n a && (if_given (is_node n) b && (not (is b a) && if_given (λ e. ltb e len) m)))
+admits n len a b m = nat_lt len max_entries && (is_node n a && (if_given (is_node n) b && (not (is b a) && if_given (λ e. ltb e len) m)))
 
 abbrev pub accepts : Meaning → ℕ → Option ℕ → Option ℕ → Bool
 accepts s a b m = admits s.nodes (length s.entries) a b m

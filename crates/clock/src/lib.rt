@@ -1,4 +1,5 @@
 //! The trait of a logical clock, and what every make of one has in common.
+#![tactic(auto)]
 
 ghost use Rattle.std.specs.Prelude.{◌≡◌, not, ◌&&◌, ltb, nat_lt};
 ghost use Rattle.causality.specs.Entries.{is, at_either};

@@ -1,6 +1,7 @@
 //! Plays the job text on standard input and writes its answers to standard output.
 //!
 //! `correlate` runs on the row clock; `correlate link` runs on the link clock, and writes the same.
+#![tactic(auto)]
 
 ghost use Rattle.std.specs.Prelude.{◌≤◌, length, IfOk};
 

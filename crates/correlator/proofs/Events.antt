@@ -1,12 +1,13 @@
 -- What an accepted event does to the forward clock and to the history, whatever its kind.
-use Rattle.std.proofs.Common.{◌≡◌, ℕ, suc, ◌<◌, Bool, true, false, cond, ◌&&◌, eqb, ltb, leb, List, [], ◌∷◌, length, Some, None, Ok, Option, sym, refl, ap, ◌∙◌, subst, inl, inr, arith}
+use Rattle.std.proofs.Common.{◌≡◌, ℕ, suc, ◌<◌, Bool, true, false, cond, ◌&&◌, ltb, List, [], ◌∷◌, length, Some, None, Ok, Option, sym, refl, ap, ◌∙◌, subst, inl, arith}
 use Rattle.std.specs.Option.{option_to_list}
 use Rattle.std.proofs.lemmas.Bool.{cond-true, and_from, not_from_false, or_left, lt-ltb, leb-false, eq-eqb}
+use Rattle.clock.specs.declared.Clock.{Ghosts}
 use Rattle.causality.specs.declared.Event.{Event}
 use Rattle.causality.specs.declared.Place.{Place}
 use Rattle.causality.specs.Limits.{is_node}
-use Rattle.causality.specs.Newest.{numbers, tally, Mem}
-use Rattle.causality.specs.Entries.{Entry, timeline, stamp}
+use Rattle.causality.specs.Newest.{numbers, Mem}
+use Rattle.causality.specs.Entries.{Entry, stamp}
 use Rattle.causality.specs.Traces.{node_of, partner_of, from, stands, entries, forward}
 use Rattle.causality.specs.Columns.{next_index}
 use Rattle.causality.proofs.Newest.{numbers-low, length-picked}
@@ -71,7 +72,7 @@ obeyed h h' k x Right free leaves right =
     record { refuses = sym free; leaves = leaves ∙ ap (λ (o : Option Refusal). cond (is_none o) (after h k) h) (sym free); answers = right }
 
 -- an accepted event call: c₁ is what `append` left, and c' is that with the table brought up to date
-module _ {X Y : Type 0} (f : X → Meaning) (r : Y → Meaning) (c c₁ c' : Correlator X Y) (v : Event) (m : Option ℕ) (p : Place) (k : Call) where
+module _ {X Y : Type 0} {F : Ghosts X} {R : Ghosts Y} (f : X → Meaning) (r : Y → Meaning) (c c₁ c' : Correlator X Y F R) (v : Event) (m : Option ℕ) (p : Place) (k : Call) where
   pub event_done : Sound f r c → Appended f c c₁ v m p → May (history c) v → is_closed c.stage ≡ false → option_to_list m ≡ numbers (from v) (history c).events →
       refusal (history c) k ≡ None → after (history c) k ≡ with_event (history c) v →
       c'.forward ≡ c₁.forward → c'.reverse ≡ c₁.reverse → history c' ≡ history c₁ → ((j : ℕ) → sent_of c'.sent j ≡ posted (v ∷ (history c).events) j) →

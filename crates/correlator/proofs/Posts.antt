@@ -1,16 +1,17 @@
 -- What the table holds of a message is what the events tell of it.
-use Rattle.std.proofs.Common.{◌≡◌, ℕ, ◌<◌, ◌≤◌, Bool, true, false, cond, not, ◌&&◌, ◌||◌, eqb, leb, List, [], ◌∷◌, length, Some, None, Option, sym, refl, ap, ◌∙◌, subst, inl, inr, arith}
+use Rattle.std.proofs.Common.{◌≡◌, ℕ, Bool, true, false, cond, not, ◌&&◌, ◌||◌, eqb, List, [], ◌∷◌, length, Some, None, Option, sym, refl, ap, ◌∙◌, inl, inr}
 use Rattle.std.specs.Option.{option_to_list}
 use Rattle.std.proofs.lemmas.Bool.{cases_Bool, or_parts, or_cases, or_right, or_from, eqb-true, and_parts, both_ways, false≢true}
+use Rattle.clock.specs.declared.Clock.{Ghosts}
 use Rattle.causality.specs.declared.Event.{Event}
 use Rattle.causality.specs.Newest.{numbers, has}
 use Rattle.causality.specs.Entries.{is}
 use Rattle.causality.specs.Traces.{node_of, sends, receives, was_sent, Accepted}
 use Rattle.clock.specs.Meaning.{Meaning}
-use Rattle.history.specs.History.{History, is_none, was_received, was_sent_by}
+use Rattle.history.specs.History.{is_none, was_received, was_sent_by}
 use Rattle.history.specs.Calls.{Call, first_that, refusal}
 use Rattle.records.specs.declared.messages.Sent.{Sent}
-use Rattle.records.specs.Messages.{sent_of, received}
+use Rattle.records.specs.Messages.{received}
 use Rattle.correlator.specs.declared.state.Correlator.{Correlator}
 use Rattle.correlator.specs.Posted.{posted, is_received, is_by, event_of}
 use Rattle.correlator.specs.State.{history, Sound, local_tests, send_tests, receive_tests, meet_tests}
@@ -135,7 +136,7 @@ post_receive vs a m k n o e f = rw (e, f) refl
 
 -- ---- the refusals, as the correlator sees them and by the history
 
-module _ {X Y : Type 0} (f : X → Meaning) (r : Y → Meaning) (c : Correlator X Y) where
+module _ {X Y : Type 0} {F : Ghosts X} {R : Ghosts Y} (f : X → Meaning) (r : Y → Meaning) (c : Correlator X Y F R) where
   pub local-refusal : (a : ℕ) → first_that (local_tests c a) ≡ refusal (history c) (Call.local a)
   local-refusal a = rw (full_is c.len c.events c.long c.within)
 

@@ -1,16 +1,15 @@
 -- The order of two events and the rows of timestamps, from what the clocks count.
-use Rattle.std.proofs.Common.{◌≡◌, ℕ, zero, suc, ◌+◌, ◌-◌, ◌<◌, ◌≤◌, Bool, true, false, cond, not, ◌&&◌, ◌||◌, eqb, ltb, leb, ◌⊎◌, List, [], ◌∷◌, ◌++◌, reverse, length, get_or, drop, set, Some, None, Decides, Option, sym, refl, ap, ◌∙◌, subst, ap₂, inl, inr, append_assoc, add-one, arith, length-append, drop-cons}
+use Rattle.std.proofs.Common.{◌≡◌, ℕ, ◌-◌, ◌<◌, ◌≤◌, Bool, true, false, cond, not, ◌&&◌, ◌||◌, eqb, ltb, List, [], ◌∷◌, ◌++◌, reverse, length, drop, Some, None, Decides, Option, sym, refl, ap, ◌∙◌, subst, ap₂, inl, inr, arith}
 use Rattle.std.proofs.lemmas.List.{length-reverse}
-use Rattle.std.proofs.lemmas.Bool.{cases_Bool, cases_eq, cond-true, cond-false, ne_eqb, and_from, and_cases, or_cases, not-false, and_parts, lt-ltb, leb-true, le-leb, eqb-true, eqb-false, eq-eqb, both_ways, false≢true}
-use Rattle.std.proofs.lemmas.Bool.Decides.{Decides-eqb}
+use Rattle.std.proofs.lemmas.Bool.{cases_Bool, cond-true, cond-false, ne_eqb, and_from, and_cases, or_cases, not-false, lt-ltb, leb-true, le-leb, eqb-true, eqb-false, eq-eqb, both_ways}
 use Rattle.causality.specs.declared.CausalOrder.{CausalOrder}
+use Rattle.clock.specs.declared.Clock.{Ghosts}
 use Rattle.causality.specs.declared.Event.{Event}
 use Rattle.causality.specs.declared.Place.{Place}
 use Rattle.causality.specs.Limits.{is_node}
 use Rattle.causality.specs.Newest.{kth}
-use Rattle.causality.specs.Entries.{stamp}
 use Rattle.causality.specs.Traces.{from, into, events_at, Before, Orderly, forward, backward, mirror}
-use Rattle.causality.specs.Relations.{To, fore, aft}
+use Rattle.causality.specs.Relations.{To, fore}
 use Rattle.causality.proofs.Newest.{nothing}
 use Rattle.causality.proofs.Counts.{stamps_tell}
 use Rattle.causality.proofs.Traces.{length-entries, timeline-events, past_is_before, before_rises, accepted_is_orderly}
@@ -22,7 +21,7 @@ use Rattle.history.specs.declared.Stage.{Stage}
 use Rattle.history.specs.declared.refusal.Refusal.{Refusal}
 use Rattle.history.specs.History.{History, is_idle, is_open, is_closed, is_none, named}
 use Rattle.history.specs.Calls.{Call, first_that, refusals, refusal}
-use Rattle.history.specs.Answers.{Compared, OrderOf, row, with_row, stamp_number, stamp_if, stamped}
+use Rattle.history.specs.Answers.{Compared, OrderOf, with_row, stamp_number, stamp_if, stamped}
 use Rattle.history.specs.Lawful.{Lawful}
 use Rattle.history.proofs.Passed.{passed}
 use Rattle.correlator.specs.declared.state.Correlator.{Correlator}
@@ -122,7 +121,7 @@ module _ (vs : List Event) (orderly : Orderly vs) (x y : ℕ) where
 node_in : (n i : ℕ) → 1 ≤ i → i ≤ n → is_node n i ≡ true
 node_in n i low high = and_from _ _ (le-leb 1 i low) (le-leb i n high)
 
-module _ {X Y : Type 0} (f : X → Meaning) (r : Y → Meaning) (c : Correlator X Y) (sound : Sound f r c) where
+module _ {X Y : Type 0} {F : Ghosts X} {R : Ghosts Y} (f : X → Meaning) (r : Y → Meaning) (c : Correlator X Y F R) (sound : Sound f r c) where
   pub seen : (p : Place) → found_at (f c.forward) p ≡ named (history c) p
   seen p = ap (λ (μ : Meaning). found_at μ p) sound.ahead ∙ found-named (history c) p
 

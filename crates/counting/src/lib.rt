@@ -1,4 +1,5 @@
 //! Rows of counts, got from a clock.
+#![tactic(auto)]
 
 ghost use Rattle.std.specs.Prelude.{◌≡◌, ◌≤◌, min, max, ◌++◌, map, length, drop};
 ghost use Rattle.clock.specs.Meaning.{counted};

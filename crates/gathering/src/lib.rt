@@ -1,4 +1,5 @@
 //! Gathering: one text that joins all elements of a slice, for any associative joining.
+#![tactic(auto)]
 
 ghost use Rattle.std.specs.Prelude.{◌≡◌, ℕ, ◌<◌, min, max, ◌++◌, length, MatchOption, slice_index};
 ghost use Rattle.gathering.specs.Gathering.{Highest, Lowest, joined_all, zipped};

@@ -1,13 +1,12 @@
 -- Calls keep a history lawful.
-use Rattle.std.proofs.Common.{◌≡◌, ℕ, suc, ◌≤◌, Bool, true, false, not, ◌&&◌, eqb, leb, List, [], ◌∷◌, length, Some, None, Option, sym, refl, ap, subst, inl, inr, arith}
+use Rattle.std.proofs.Common.{◌≡◌, ℕ, true, false, length, Some, None, Option, sym, refl, subst, arith}
 use Rattle.std.proofs.lemmas.Bool.{not-false, and_parts, leb-false, ne_eqb, eqb-false}
 use Rattle.causality.specs.declared.Event.{Event}
-use Rattle.causality.specs.declared.Place.{Place}
-use Rattle.causality.specs.Limits.{max-nodes, is_node}
-use Rattle.causality.specs.Traces.{sends, receives, was_sent, Accepted}
+use Rattle.causality.specs.Limits.{is_node}
+use Rattle.causality.specs.Traces.{sends, receives, was_sent}
 use Rattle.causality.proofs.Newest.{nothing}
 use Rattle.history.specs.declared.refusal.Refusal.{Refusal}
-use Rattle.history.specs.History.{History, idle, is_full, was_received}
+use Rattle.history.specs.History.{History, is_full, was_received}
 use Rattle.history.specs.Calls.{Call, refusals, refusal, with_event, after, next_history}
 use Rattle.history.specs.Lawful.{Fits, Lawful, HistoriesLawful}
 use Rattle.history.proofs.Passed.{passed}

@@ -5,7 +5,7 @@
 --   next_place h a         the place that the next event of node a has
 --   Compared vs x y o      o tells how event x stands to event y
 --   stamp_number h d x i   how many events of node i are x or before it (d is 1), or are x or after it (d is 2)
-use Rattle.std.specs.Prelude.{◌≡◌, ℕ, zero, suc, Bool, true, false, cond, ◌↔◌, List, [], ◌∷◌, ◌++◌, drop, IfOk, Some, None, Ok, Err, Option, Result, ◌==◌}
+use Rattle.std.specs.Prelude.{◌≡◌, ℕ, zero, suc, cond, ◌↔◌, List, [], ◌∷◌, ◌++◌, drop, IfOk, Some, None, Ok, Err, Option, Result, ◌==◌}
 use Rattle.causality.specs.declared.CausalOrder.{CausalOrder}
 use Rattle.causality.specs.declared.Event.{Event}
 use Rattle.causality.specs.declared.Place.{Place}

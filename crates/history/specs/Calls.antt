@@ -2,10 +2,10 @@
 --
 -- `refusals` lists, for each call, the refusals in the order in which they are tried, each with its test; the first that holds
 -- is the call's refusal. A refused call leaves the history as it was. A row that is lent to a call counts by its length.
-use Rattle.std.specs.Prelude.{◌≡◌, ℕ, Bool, true, false, cond, not, ◌&&◌, ◌||◌, List, [], ◌∷◌, length, Some, None, Option, ◌==◌, nat_le, nat_lt}
+use Rattle.std.specs.Prelude.{ℕ, Bool, cond, not, ◌&&◌, ◌||◌, List, [], ◌∷◌, length, Some, None, Option, ◌==◌, nat_le, nat_lt}
 use Rattle.causality.specs.declared.Event.{Event}
 use Rattle.causality.specs.declared.Place.{Place}
-use Rattle.causality.specs.Limits.{max-nodes, is_node}
+use Rattle.causality.specs.Limits.{max_nodes, is_node}
 use Rattle.causality.specs.Traces.{was_sent}
 use Rattle.history.specs.declared.Stage.{Stage}
 use Rattle.history.specs.declared.refusal.Refusal.{Refusal}
@@ -40,7 +40,7 @@ abbrev pub when_closed : History → List (Bool × Refusal) → List (Bool × Re
 when_closed h own = (is_idle h.stage, Refusal.Idle) ∷ (is_open h.stage, Refusal.Open) ∷ own
 
 abbrev pub refusals : History → Call → List (Bool × Refusal)
-refusals h (Call.start n) = (not (is_node max-nodes n), Refusal.NodeCount) ∷ []
+refusals h (Call.start n) = (not (is_node max_nodes n), Refusal.NodeCount) ∷ []
 refusals h (Call.local a) = in_trace h (is_node h.nodes a) ((is_full h.events, Refusal.Full) ∷ [])
 refusals h (Call.send a m) =
     in_trace h (is_node h.nodes a)

@@ -2,10 +2,10 @@
 -- how many operations there are, and the member events of each by its name.
 --
 -- An event goes by its number, from 0 and the oldest. A place i.k names the k-th event of node i, if there is one.
-use Rattle.std.specs.Prelude.{◌≡◌, ℕ, suc, Bool, true, false, cond, ◌&&◌, ◌||◌, List, [], ◌∷◌, length, Some, None, Option, ◌==◌, nat_le}
+use Rattle.std.specs.Prelude.{ℕ, suc, Bool, true, false, cond, ◌&&◌, ◌||◌, List, [], ◌∷◌, length, Some, None, Option, ◌==◌, nat_le}
 use Rattle.causality.specs.declared.Event.{Event}
 use Rattle.causality.specs.declared.Place.{Place}
-use Rattle.causality.specs.Limits.{max-events, is_node}
+use Rattle.causality.specs.Limits.{max_events, is_node}
 use Rattle.causality.specs.Newest.{kth, has}
 use Rattle.causality.specs.Entries.{is}
 use Rattle.causality.specs.Traces.{node_of, sends, receives, events_at}
@@ -56,7 +56,7 @@ abbrev pub was_sent_by : List Event → ℕ → ℕ → Bool
 was_sent_by vs a m = has (λ v. is (sends v) m && node_of v == a) vs
 
 abbrev pub is_full : List Event → Bool
-is_full vs = nat_le max-events (length vs)
+is_full vs = nat_le max_events (length vs)
 
 -- the event that a place names
 abbrev pub named : History → Place → Option ℕ

@@ -3,7 +3,7 @@
 use Rattle.std.specs.Prelude.{◌≡◌, ℕ, ◌≤◌, Bool, true, false, List, [], ◌∷◌, length, Some, None, Option}
 use Rattle.std.specs.List.{AllByRecursion as All}
 use Rattle.causality.specs.declared.Event.{Event}
-use Rattle.causality.specs.Limits.{max-nodes, max-events, is_node}
+use Rattle.causality.specs.Limits.{max_nodes, max_events, is_node}
 use Rattle.causality.specs.Entries.{is}
 use Rattle.causality.specs.Traces.{node_of, partner_of, receives, Accepted}
 use Rattle.history.specs.History.{History, idle, was_received}
@@ -28,8 +28,8 @@ pub record Lawful (h : History) : Type 0 where
   pub fits : All (Fits h.nodes) h.events
   pub accepted : Accepted h.events
   pub once : Once h.events
-  pub few : length h.events ≤ max-events
-  pub nodes : is_node max-nodes h.nodes ≡ true
+  pub few : length h.events ≤ max_events
+  pub nodes : is_node max_nodes h.nodes ≡ true
 
 abbrev pub HistoriesLawful : Type 0
 HistoriesLawful = Lawful idle × ((h : History) (c : Call) → Lawful h → Lawful (next_history h c))

@@ -2,6 +2,7 @@
 //!
 //! The definitions are in `specs/`: `History.antt` has the state, `Calls.antt` the calls with their refusals and what an
 //! accepted call leaves.
+#![tactic(auto)]
 
 ghost use Rattle.history.specs.Lawful.{HistoriesLawful};
 

@@ -1,4 +1,5 @@
 //! The job text: its lines one by one, and the check of a whole text.
+#![tactic(auto)]
 
 mod lines;
 mod scan;

@@ -1,4 +1,5 @@
 //! The forms of a line of the job text, and the reader of one line.
+#![tactic(auto)]
 
 mod forms;
 mod parts;

@@ -9,8 +9,8 @@ use Rattle.std.proofs.lemmas.List.{get_or-set_same, get_or-set_other, get_or-rep
 use Rattle.std.proofs.lemmas.Bool.{cases_Bool, cases_eq, and_parts, and_from, lt-ltb, ltb-true}
 use Rattle.causality.specs.Entries.{Entry, at_either, latest, predecessors, in_some, past}
 use Rattle.causality.proofs.Pasts.{past-tail, past_head}
-use Rattle.causality.specs.Limits.{max-nodes, is_node}
-use Rattle.clock.specs.Meaning.{max-entries, if_given, asked}
+use Rattle.causality.specs.Limits.{max_nodes, is_node}
+use Rattle.clock.specs.Meaning.{max_entries, if_given, asked}
 use Rattle.clock.specs.Takes.{entries_of}
 use Rattle.clock.proofs.Arrays.{length-listed, listed_like, listed-set, node_bounds, given_up, Admitted}
 use Rattle.clock.proofs.Takes.{length-entries, latest-low}
@@ -74,7 +74,7 @@ linked len links latest-at kept = record { low = λ z l. ∥∥₁_elim kept (Bo
 
 -- ---- one more entry
 
-module _ (len : ℕ) (links : List Link) (latest-at latest-at' : List (Option ℕ)) (a : ℕ) (b m own other : Option ℕ) (tall : length links ≡ max-entries) (ok : Admitted len a b m)
+module _ (len : ℕ) (links : List Link) (latest-at latest-at' : List (Option ℕ)) (a : ℕ) (b m own other : Option ℕ) (tall : length links ≡ max_entries) (ok : Admitted len a b m)
     (own_is : own ≡ latest_of latest-at (Some a)) (other-is : other ≡ latest_of latest-at b) (noted : Noted latest-at a b len latest-at') where
   abbrev new : Link
   new = record { node = a; partner = b; own = own; other = other; prior = m }
@@ -101,11 +101,11 @@ module _ (len : ℕ) (links : List Link) (latest-at latest-at' : List (Option �
         last = λ i h. noted i h ∙ ap (cond (at_either a b i) (Some len)) (k.last i h) ∙ newest-more i ∙ ap (λ (ts : List Entry). latest ts (Some i)) (sym takes_more);
       }
     where
-      last_of : Keeps len links latest-at → (o : Option ℕ) → if_given (is_node max-nodes) o ≡ true → latest_of latest-at o ≡ latest (takes_of links len) o
+      last_of : Keeps len links latest-at → (o : Option ℕ) → if_given (is_node max_nodes) o ≡ true → latest_of latest-at o ≡ latest (takes_of links len) o
       last_of k None h = refl
       last_of k (Some i) h = k.last i h
 
-      held : Keeps len links latest-at → (o x : Option ℕ) → if_given (is_node max-nodes) o ≡ true → x ≡ latest_of latest-at o → if_given (λ y. ltb y len) x ≡ true
+      held : Keeps len links latest-at → (o x : Option ℕ) → if_given (is_node max_nodes) o ≡ true → x ≡ latest_of latest-at o → if_given (λ y. ltb y len) x ≡ true
       held k o x h e = rw (e ∙ last_of k o h) (rw (length_takes links len) at (latest-low (takes_of links len) o))
 
       newest-more : (i : ℕ) → cond (at_either a b i) (Some len) (latest (takes_of links len) (Some i)) ≡ latest (asked a b m ∷ takes_of links len) (Some i)
@@ -116,9 +116,9 @@ module _ (len : ℕ) (links : List Link) (latest-at latest-at' : List (Option �
 
 -- ---- no entries
 
-pub kept-none : (links : List Link) → Kept 0 links (replicate max-nodes None)
+pub kept-none : (links : List Link) → Kept 0 links (replicate max_nodes None)
 kept-none links = ∣ record {
   right = λ e l. absurd (omega arith);
   low = λ e l. absurd (omega arith);
-  last = λ i h. get_or-replicate max-nodes (i - 1) None None (omega (arith, node_bounds max-nodes i h));
+  last = λ i h. get_or-replicate max_nodes (i - 1) None None (omega (arith, node_bounds max_nodes i h));
 } ∣₁

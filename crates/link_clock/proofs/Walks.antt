@@ -1,14 +1,13 @@
 -- A walk back from an entry meets its past.
-use Rattle.std.proofs.Common.{◌≡◌, ℕ, zero, suc, ◌+◌, ◌<◌, ◌≤◌, Bool, true, false, ◌&&◌, ◌||◌, ◌≢◌, List, [], ◌∷◌, length, get_or, set, replicate, sym, refl, ap, ◌∙◌, inl, inr, add-one, arith, length-set}
-use mathlib.Core.Bool.{or_assoc, or_comm, or_false}
+use Rattle.std.proofs.Common.{◌≡◌, ℕ, zero, suc, ◌+◌, ◌<◌, ◌≤◌, Bool, true, false, cond, ◌&&◌, ◌||◌, ◌≢◌, List, [], ◌∷◌, length, get_or, set, replicate, sym, refl, ap, ◌∙◌, inl, inr, add-one, arith, length-set}
+use mathlib.Core.Bool.{or_assoc, or_comm, or-false}
 use Rattle.std.specs.List.{AllByRecursion as All}
 use Rattle.std.proofs.lemmas.List.{get_or-set_same, get_or-set_other, get_or-replicate, length-replicate}
 use Rattle.std.proofs.lemmas.Bool.{cases_Bool, cases_eq, ne_eqb}
-use Rattle.std.proofs.lemmas.Bool.Decides.{nat_tests}
 use Rattle.causality.specs.Newest.{tally}
 use Rattle.causality.specs.Entries.{at_either, timeline, in_some, past}
 use Rattle.causality.proofs.Pasts.{pasts-lawful}
-use Rattle.clock.specs.Meaning.{max-entries}
+use Rattle.clock.specs.Meaning.{max_entries}
 use Rattle.link_clock.specs.declared.Link.{Link}
 use Rattle.link_clock.specs.Links.{no_link, takes_of, before, marked, visited, hits, reached, Walked}
 use Rattle.link_clock.proofs.Links.{length_takes, earlier-all, Linked}
@@ -72,23 +71,32 @@ tally_older links p e i high (suc k) l =
           ]
     ]
 
+-- one count more where a mark stands
+one_hit : (b : Bool) (n : ℕ) → cond (b && true) 1 0 + n ≡ cond b (suc n) n
+one_hit true n = omega arith
+one_hit false n = omega arith
+
+no_hit : (b : Bool) (n : ℕ) → cond (b && false) 1 0 + n ≡ n
+no_hit true n = omega arith
+no_hit false n = omega arith
+
 -- ---- the walk
 
-module _ (links : List Link) (len e i : ℕ) (linked : Linked links len) (e-low : e < len) (small : len ≤ max-entries) where
+module _ (links : List Link) (len e i : ℕ) (linked : Linked links len) (e-low : e < len) (small : len ≤ max_entries) where
   abbrev P : ℕ → ℕ → Bool
   P = past (takes_of links len)
 
   high : (z y : ℕ) → z < y → P z y ≡ false
   high z y l = elim (cases_Bool (P z y)) [ inl h ↦ absurd (omega (arith, (pasts-lawful (takes_of links len)).no_higher z y h)) | inr h ↦ h ]
 
-  pub walked_start : Walked links len e i (set (replicate max-entries false) e true) (e + 1) 0
+  pub walked_start : Walked links len e i (set (replicate max_entries false) e true) (e + 1) 0
   walked_start = record {
-    size = length-set (replicate max-entries false) e true ∙ length-replicate max-entries false;
+    size = length-set (replicate max_entries false) e true ∙ length-replicate max_entries false;
     low = omega arith;
     small = omega arith;
     left = λ y l.
-        let none = reached-none P y (replicate max-entries false) (suc e) (λ z l. rw (get_or-replicate max-entries z false false (omega arith))) in
-        rw (add-one, reached-set P y (replicate max-entries false) e (suc e) (omega arith) (omega (arith, length-replicate max-entries false)), none) (or_false (P e y));
+        let none = reached-none P y (replicate max_entries false) (suc e) (λ z l. rw (get_or-replicate max_entries z false false (omega arith))) in
+        rw (add-one, reached-set P y (replicate max_entries false) e (suc e) (omega arith) (omega (arith, length-replicate max_entries false)), none) (or-false (P e y));
     met = rw add-one (omega (arith, tally_older links (P e) e i (λ z. high e z) len e-low));
   }
 
@@ -106,8 +114,8 @@ module _ (links : List Link) (len e i : ℕ) (linked : Linked links len) (e-low 
     met-more : hits links marks z i + tally (P e) (timeline (takes_of links z) i) ≡ tally (P e) (timeline (takes_of links (suc z)) i)
     met-more =
         elim (cases_Bool (at_either (get_or links z no_link).node (get_or links z no_link).partner i)) [
-          | inl s ↦ rw (s, length_takes links z, ← told) (grind (arith, nat_tests))
-          | inr s ↦ rw s (grind (arith, nat_tests))
+          | inl s ↦ rw (s, length_takes links z, ← told) (one_hit (get_or marks z false) _)
+          | inr s ↦ rw s (no_hit (get_or marks z false) _)
         ]
 
     left-more : (y : ℕ) → y < z → reached P (visited links marks z) z y ≡ P e y

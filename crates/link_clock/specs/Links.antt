@@ -16,8 +16,8 @@ use Rattle.std.specs.Prelude.{◌≡◌, ℕ, zero, suc, ◌+◌, ◌-◌, ◌<�
 use Rattle.std.specs.Option.{option_to_list}
 use Rattle.causality.specs.Newest.{tally}
 use Rattle.causality.specs.Entries.{Entry, at_either, timeline, latest, predecessors, past, stamp}
-use Rattle.causality.specs.Limits.{max-nodes, is_node}
-use Rattle.clock.specs.Meaning.{Meaning, max-entries, if_given, asked}
+use Rattle.causality.specs.Limits.{max_nodes, is_node}
+use Rattle.clock.specs.Meaning.{Meaning, max_entries, if_given, asked}
 use Rattle.clock.specs.Takes.{meaning}
 use Rattle.clock.specs.Arrays.{listed}
 use Rattle.link_clock.specs.declared.Link.{Link}
@@ -48,7 +48,7 @@ pub record Keeps (len : ℕ) (links : List Link) (latest-at : List (Option ℕ))
   pub right : (e : ℕ) → e < len → before (slice_index_or links e no_link) ≡ predecessors (entry_of (slice_index_or links e no_link)) (takes_of links e)
   pub low : (e : ℕ) → e < len → earlier e (slice_index_or links e no_link) ≡ true
   -- each node has its latest entry
-  pub last : (i : ℕ) → is_node max-nodes i ≡ true → slice_index_or latest-at (i - 1) None ≡ latest (takes_of links len) (Some i)
+  pub last : (i : ℕ) → is_node max_nodes i ≡ true → slice_index_or latest-at (i - 1) None ≡ latest (takes_of links len) (Some i)
 
 abbrev pub Kept : ℕ → List Link → List (Option ℕ) → Type 0
 Kept len links latest-at = ∥ (Keeps len links latest-at) ∥₁
@@ -62,7 +62,7 @@ latest_of latest-at (Some i) = slice_index_or latest-at (i - 1) None
 -- entry e is the latest at a and b
 abbrev pub Noted : List (Option ℕ) → ℕ → Option ℕ → ℕ → List (Option ℕ) → Type 0
 Noted latest-at a b e latest-at' =
-    (i : ℕ) → is_node max-nodes i ≡ true → slice_index_or latest-at' (i - 1) None ≡ cond (at_either a b i) (Some e) (slice_index_or latest-at (i - 1) None)
+    (i : ℕ) → is_node max_nodes i ≡ true → slice_index_or latest-at' (i - 1) None ≡ cond (at_either a b i) (Some e) (slice_index_or latest-at (i - 1) None)
 
 -- ---- the walk
 
@@ -83,8 +83,8 @@ reached past_of marks (suc z) y = (slice_index_or marks z false && past_of z y) 
 
 -- from e back to x: what is marked below x reaches the rest of the past of e, and count is what was met
 pub record Walked (links : List Link) (len e i : ℕ) (marks : List Bool) (x count : ℕ) : Type 0 where
-  pub size : length marks ≡ max-entries
+  pub size : length marks ≡ max_entries
   pub low : x ≤ e + 1
-  pub small : count + x ≤ max-entries
+  pub small : count + x ≤ max_entries
   pub left : (y : ℕ) → y < x → reached (past (takes_of links len)) marks x y ≡ past (takes_of links len) e y
   pub met : count + tally (past (takes_of links len) e) (timeline (takes_of links x) i) ≡ stamp (takes_of links len) e i

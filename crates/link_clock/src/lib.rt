@@ -1,13 +1,14 @@
 //! A clock that keeps only the immediate predecessors of each entry, and walks back over them when asked.
+#![tactic(auto)]
 
 ghost use Rattle.std.specs.Prelude.{◌≡◌, ◌<◌, ◌≤◌, true, length, nat_lt, slice_index_or};
 ghost use Rattle.std.specs.Option.{option_to_list};
 ghost use Rattle.causality.specs.Entries.{stamp};
 ghost use Rattle.causality.specs.Entries.{at as timeline-at};
-ghost use Rattle.causality.specs.Limits.{max-nodes, is_node};
-ghost use Rattle.clock.specs.Meaning.{max-entries, blank, if_given};
+ghost use Rattle.causality.specs.Limits.{max_nodes, is_node};
+ghost use Rattle.clock.specs.Meaning.{max_entries, blank, if_given};
 ghost use Rattle.link_clock.specs.Links.{no_link, before, earlier, takes_of, links_mean, Kept, latest_of, Noted, marked, visited, hits};
-ghost use Rattle.std.proofs.Common.{rules, arith};
+ghost use Rattle.clock.proofs.Takes.{meanings_lawful};
 
 use clock::{Clock, MAX_ENTRIES, MAX_NODES, admits, is_node, knows, stands};
 
@@ -33,14 +34,14 @@ pub struct LinkClock {
     len: u16,
     links: [Link; ENTRIES],
     latest: [Option<u16>; NODES],
-    ghost long: { (length links ≡ max-entries) × (length latest ≡ max-nodes) },
-    ghost within: { (len ≤ max-entries) × (nodes ≤ max-nodes) },
+    ghost long: { (length links ≡ max_entries) × (length latest ≡ max_nodes) },
+    ghost within: { (len ≤ max_entries) × (nodes ≤ max_nodes) },
     ghost kept: { Kept len links latest },
 }
 
 /// Entry e is now the latest at node a, and at b.
 fn note(latest: &mut [Option<u16>; NODES], a: u16, b: Option<u16>, e: u16)
-    requires { (is_node max-nodes a ≡ true) × (if_given (is_node max-nodes) b ≡ true) }
+    requires { (is_node max_nodes a ≡ true) × (if_given (is_node max_nodes) b ≡ true) }
     ensures noted { Noted latest.old a b e latest.new }
     ensures long { length latest.new ≡ length latest.old }
 {
@@ -51,7 +52,7 @@ fn note(latest: &mut [Option<u16>; NODES], a: u16, b: Option<u16>, e: u16)
 }
 
 fn mark(marks: &mut [bool; ENTRIES], x: Option<u16>)
-    requires { if_given (λ y. nat_lt y max-entries) x ≡ true }
+    requires { if_given (λ y. nat_lt y max_entries) x ≡ true }
     ensures { marks.new ≡ marked marks.old (option_to_list x) }
 {
     if let Some(x) = x {
@@ -61,7 +62,7 @@ fn mark(marks: &mut [bool; ENTRIES], x: Option<u16>)
 
 /// Marks the immediate predecessors of an entry.
 fn mark_before(marks: &mut [bool; ENTRIES], link: Link)
-    requires { earlier max-entries link ≡ true }
+    requires { earlier max_entries link ≡ true }
     ensures { marks.new ≡ marked marks.old (before link) }
 {
     mark(marks, link.own);
@@ -72,7 +73,7 @@ fn mark_before(marks: &mut [bool; ENTRIES], link: Link)
 impl LinkClock {
     /// Sets n nodes and no entries.
     fn clear(&mut self, n: u16)
-        requires { is_node max-nodes n ≡ true }
+        requires { is_node max_nodes n ≡ true }
         ensures { links_mean self.new.nodes self.new.len self.new.links ≡ blank n }
     {
         self.nodes = n;
@@ -82,7 +83,7 @@ impl LinkClock {
 
     /// The latest entry at node i.
     fn latest_at(&self, i: Option<u16>) -> Option<u16>
-        requires { if_given (is_node max-nodes) i ≡ true }
+        requires { if_given (is_node max_nodes) i ≡ true }
         ensures { result ≡ latest_of self.now.latest i }
     {
         match i {
@@ -93,7 +94,7 @@ impl LinkClock {
 
     /// Visits entry x: if it is marked, marks what comes before it, and counts it if it stands at node i.
     fn visit(&self, marks: &mut [bool; ENTRIES], x: usize, i: u16) -> u16
-        requires { (x < max-entries) × (earlier max-entries (slice_index_or self.now.links x no_link) ≡ true) }
+        requires { (x < max_entries) × (earlier max_entries (slice_index_or self.now.links x no_link) ≡ true) }
         ensures after { marks.new ≡ visited self.now.links marks.old x }
         ensures value { result ≡ hits self.now.links marks.old x i }
     {
@@ -147,13 +148,13 @@ impl LinkClock {
 impl Clock for LinkClock {
     ghost means = { λ s. links_mean s.nodes s.len s.links };
 
-    ghost own = { first_of (Prim.search rules, Prim.grind (arith, Self.row.coded.inj)) };
+    ghost own = { λ s. (meanings_lawful s.nodes (takes_of s.links s.len)).own };
 
-    ghost through = { first_of (Prim.search rules, Prim.grind (arith, Self.row.coded.inj)) };
+    ghost through = { λ s. (meanings_lawful s.nodes (takes_of s.links s.len)).through };
 
-    ghost earliest = { first_of (Prim.search rules, Prim.grind (arith, Self.row.coded.inj)) };
+    ghost earliest = { λ s. (meanings_lawful s.nodes (takes_of s.links s.len)).earliest };
 
-    ghost no_higher = { first_of (Prim.search rules, Prim.grind (arith, Self.row.coded.inj)) };
+    ghost no_higher = { λ s. (meanings_lawful s.nodes (takes_of s.links s.len)).no_higher };
 
     fn new() -> LinkClock {
         LinkClock {

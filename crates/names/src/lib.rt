@@ -1,4 +1,5 @@
 //! Operation names packed into one number each, which stand in the order of the names.
+#![tactic(auto)]
 
 ghost use Rattle.history.specs.History.{is_letter, is_name};
 ghost use Rattle.names.specs.Names.{PackingKeeps, PackingOrders, PackingTells, packed};

@@ -14,12 +14,12 @@ listed [] = []
 listed (p ∷ []) = placed p
 listed (p ∷ q ∷ ps) = placed p ++ (44 ∷ listed (q ∷ ps))
 
-abbrev pub max-places : ℕ
-max-places = 512
+abbrev pub max_places : ℕ
+max_places = 512
 
 pub record SoundPlaces (ps : List Place) : Type 0 where
   pub some : 1 ≤ length ps
-  pub few : length ps ≤ max-places
+  pub few : length ps ≤ max_places
   pub all : All SoundPlace ps
 
 pub record Lists (bs : List ℕ) (ps : List Place) : Type 0 where

@@ -1,4 +1,5 @@
 //! Plays a job text on a correlator: reads its lines, makes the calls and writes the lines of the answer.
+#![tactic(auto)]
 
 mod reports;
 mod text;

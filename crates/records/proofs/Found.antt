@@ -1,5 +1,5 @@
 -- The record that a search found.
-use Rattle.std.proofs.Common.{◌≡◌, ℕ, ◌≤◌, length, None, sym, arith}
+use Rattle.std.proofs.Common.{ℕ, ◌≤◌, length, None, arith}
 use Rattle.records.specs.declared.messages.Messages.{Messages}
 use Rattle.records.specs.declared.messages.Sent.{Sent}
 

@@ -1,4 +1,5 @@
 //! The records of a trace in fixed memory, each kind an ordered table by its key.
+#![tactic(auto)]
 
 pub mod messages;
 pub mod operations;

@@ -62,7 +62,7 @@ module _ (vs ws : List Event) where
         let (i, k, p) = own-place vs u (all-entry (λ w. w < length vs) xs n u range e) in
         let (u', m', p') = covered i k u m p in
         let agrees = columns_decide vs ws orderly orderly' same i k u u' i k u u' p p' p p' in
-        (u', m', agrees.stamps, agrees.reverse-stamps)
+        (u', m', agrees.stamps, agrees.reverse_stamps)
 
     stamps-found : (i : ℕ) → Found (λ u. Some (fore vs u i)) xs (λ u. Some (fore ws u i)) xs'
     stamps-found i u k m e = let (u', m', s, _) = twin u m in (u', m', ap Some (sym (s i)) ∙ e)

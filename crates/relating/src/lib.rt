@@ -2,6 +2,7 @@
 //!
 //! The definitions and statements are in `specs/`: start with `Walks.antt`. Each theorem is the contract of a function that
 //! does nothing, so that the crate is proved only if the theorem is.
+#![tactic(auto)]
 
 ghost use Rattle.relating.specs.Worked.{WorkedWalks};
 ghost use Rattle.relating.specs.Walks.{WalksDecide, StepsRanked, WalksRelated, OneAnswer};

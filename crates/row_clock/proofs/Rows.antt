@@ -1,5 +1,5 @@
 -- Rows and columns of a list of takes mean that takes, and so do those with one more entry.
-use Rattle.std.proofs.Common.{◌≡◌, ℕ, suc, ◌+◌, ◌-◌, ◌<◌, ◌≤◌, max, true, cond, ◌&&◌, eqb, ltb, ◌≢◌, List, [], ◌∷◌, ◌++◌, length, get_or, set, replicate, Some, None, Decides, Option, sym, refl, ap, ◌∙◌, subst, ap₂, inl, inr, add-one, arith, below_more}
+use Rattle.std.proofs.Common.{◌≡◌, ℕ, suc, ◌+◌, ◌-◌, ◌<◌, ◌≤◌, max, true, cond, ◌&&◌, ltb, ◌≢◌, List, [], ◌∷◌, ◌++◌, length, get_or, set, replicate, Some, None, Option, sym, refl, ap, ◌∙◌, subst, ap₂, inl, inr, add-one, arith, below_more}
 use mathlib.Core.List.{is_set}
 use mathlib.Core.Bool.{Bool-set}
 use mathlib.Core.Logic.{∥∥₁_elim, ∥∥₁_prop}
@@ -7,43 +7,23 @@ use native.Mathlib.Bridge.{le_prop}
 use native.Mathlib.Nat.{ℕ_set}
 use Rattle.std.specs.Option.{option_to_list}
 use Rattle.std.proofs.lemmas.List.{get_or-set_same, get_or-set_other, get_or-replicate}
-use Rattle.std.proofs.lemmas.Bool.Decides.{same_from_decides}
-use Rattle.std.proofs.lemmas.Bool.{cases_Bool, cases_eq, eq-eqb, or_left, and_from, and_parts, le-leb, leb-true, ltb-true}
-use Rattle.causality.specs.Newest.{entry, tally, Mem}
-use Rattle.causality.specs.Entries.{Entry, at_either, timeline, newest, latest, past, at, stamp, greatest, next_stamp}
-use Rattle.causality.proofs.Newest.{entry_head, entry-tail, entry-some, mem-entry, entry-kth, entry-order, numbers_in, numbers_descend}
-use Rattle.causality.proofs.Pasts.{own, at_low, past-tail, pasts-lawful}
-use Rattle.causality.proofs.Counts.{tally_le, stamps_tell, stamps_grow}
-use Rattle.causality.specs.Limits.{max-nodes, is_node}
-use Rattle.clock.specs.Meaning.{Held, max-entries, held_at, within, next_past, appended, asked, if_given}
-use Rattle.clock.specs.Takes.{entries_of}
+use Rattle.std.proofs.lemmas.Bool.{cases_Bool, and_from, and_parts, le-leb, ltb-true}
+use Rattle.causality.specs.Newest.{entry, tally}
+use Rattle.causality.specs.Entries.{Entry, at_either, timeline, newest, latest, past, stamp, greatest, next_stamp}
+use Rattle.causality.proofs.Newest.{entry_head, entry-tail}
+use Rattle.causality.proofs.Pasts.{past-tail}
+use Rattle.causality.proofs.Counts.{stamps_grow}
+use Rattle.causality.specs.Limits.{max_nodes, is_node}
+use Rattle.clock.specs.Meaning.{Held, max_entries, held_at, within, next_past, appended, asked, if_given}
 use Rattle.clock.specs.Arrays.{listed}
 use Rattle.clock.proofs.Arrays.{length-listed, listed_like, node_bounds, node_up, Admitted}
-use Rattle.clock.proofs.Takes.{Of-takes, held_timeline, tally-stamp, next_past-is, entries_held, latest-low}
+use Rattle.clock.proofs.Takes.{held_timeline, tally-stamp, next_past-is, latest-low}
 use Rattle.row_clock.specs.declared.parts.Row.{Row}
 use Rattle.row_clock.specs.declared.parts.Column.{Column}
-use Rattle.row_clock.specs.Rows.{no_row, no_column, cell, line_of, reaches, held_row, rows_mean, Keeps, Kept, latest_of, cell_of, next_count, Filed}
+use Rattle.row_clock.specs.Laws.{reaches-past, entries-kept}
+use Rattle.row_clock.specs.Rows.{no_row, no_column, cell, line_of, reaches, held_row, Keeps, Kept, latest_of, cell_of, next_count, Filed}
 
 -- ---- of any takes
-
--- an entry is the k-th of its node, where k is its own count there
-own-kth : (ts : List Entry) (x i : ℕ) → Mem x (timeline ts i) → at ts i (stamp ts x i) ≡ Some x
-own-kth ts x i m =
-    let c = timeline ts i in
-    let (n, e) = mem-entry c x m in
-    let it : at ts i (suc n) ≡ Some x = entry-kth c n ∙ e in
-    let low = (stamps_tell ts x i (suc n) x it).0 (own ts x (at_low ts x i m)) in
-    elim (cases_eq (stamp ts x i) (suc n)) [
-      | inl q ↦ rw q it
-      | inr q ↦
-          let (y, f) = entry-some c (suc n) (omega (arith, tally_le (past ts x) c)) in
-          let h = (stamps_tell ts x i (suc (suc n)) y (entry-kth c (suc n) ∙ f)).1 (omega arith) in
-          absurd (omega (
-            arith,
-            (pasts-lawful ts).no_higher x y h,
-            entry-order c (numbers_descend (λ t. at_either t.node t.partner i) ts) n (suc n) x y e f (omega arith),
-          ))
-    ]
 
 line_low : (ts : List Entry) (i : ℕ) → length (timeline ts i) ≤ length ts
 line_low [] i = omega arith
@@ -58,52 +38,28 @@ greatest-append f (x ∷ xs) ys = omega (arith, greatest-append f xs ys)
 -- ---- what rows and columns tell of their takes
 
 module _ (len : ℕ) (rows : List Row) (columns : List Column) (ts : List Entry) (k : Keeps len rows columns ts) where
-  pub reaches-past : (e x : ℕ) → e < len → reaches rows e x ≡ past ts e x
-  reaches-past e x l = same_from_decides _ _ (there, back) ((λ h. h), λ h. h)
-    where
-      i : ℕ
-      i = (get_or rows x no_row).node
-
-      tell : x ≤ e → Decides (past ts e x) (cell rows x i ≤ cell rows e i)
-      tell low =
-          let node = (get_or rows x no_row).placed in
-          let (_, is) = k.placed x (omega arith) in
-          let stands = numbers_in (λ t. at_either t.node t.partner i) ts x _ is (or_left (eqb i i) _ (eq-eqb i i refl)) in
-          rw (k.stamped x i (omega arith) node, k.stamped e i l node) (stamps_tell ts e i (stamp ts x i) x (own-kth ts x i stands))
-
-      there : reaches rows e x ≡ true → past ts e x ≡ true
-      there h = let (p, q) = and_parts _ _ h in (tell (leb-true x e p)).1 (leb-true (cell rows x i) (cell rows e i) q)
-
-      back : past ts e x ≡ true → reaches rows e x ≡ true
-      back h = let (low, _) = (pasts-lawful ts).no_higher e x h in and_from _ _ (le-leb x e low) (le-leb (cell rows x i) (cell rows e i) ((tell low).0 h))
-
-  pub entries-kept : listed (held_row rows) len ≡ entries_of ts
-  entries-kept =
-      ap (listed (held_row rows)) (sym k.size)
-      ∙ entries_held ts (held_row rows) (λ e l. let (ps, is) = k.placed e (omega (arith, k.size)) in (ps, is, λ x. reaches-past e x (omega (arith, k.size))))
-
-  column_len : (i : ℕ) → is_node max-nodes i ≡ true → (get_or columns (i - 1) no_column).len ≡ length (timeline ts i)
+  column_len : (i : ℕ) → is_node max_nodes i ≡ true → (get_or columns (i - 1) no_column).len ≡ length (timeline ts i)
   column_len i h = sym (length-listed _ (get_or columns (i - 1) no_column).len) ∙ ap length (k.filed i h)
 
-  pub column-low : (i : ℕ) → is_node max-nodes i ≡ true → (get_or columns (i - 1) no_column).len ≤ len
+  pub column-low : (i : ℕ) → is_node max_nodes i ≡ true → (get_or columns (i - 1) no_column).len ≤ len
   column-low i h = omega (arith, column_len i h, line_low ts i, k.size)
 
-  latest_in : (o : Option ℕ) → if_given (is_node max-nodes) o ≡ true → latest_of columns o ≡ latest ts o
+  latest_in : (o : Option ℕ) → if_given (is_node max_nodes) o ≡ true → latest_of columns o ≡ latest ts o
   latest_in None h = refl
   latest_in (Some i) h = ap newest (k.filed i h)
 
-  pub latest-fits : (o : Option ℕ) → if_given (is_node max-nodes) o ≡ true → if_given (λ x. ltb x len) (latest_of columns o) ≡ true
+  pub latest-fits : (o : Option ℕ) → if_given (is_node max_nodes) o ≡ true → if_given (λ x. ltb x len) (latest_of columns o) ≡ true
   latest-fits o h = rw (latest_in o h, ← k.size) (latest-low ts o)
 
-  cell-stamp : (i : ℕ) → is_node max-nodes i ≡ true → (o : Option ℕ) → if_given (λ x. ltb x len) o ≡ true → cell_of rows o i ≡ greatest (λ e. stamp ts e i) (option_to_list o)
+  cell-stamp : (i : ℕ) → is_node max_nodes i ≡ true → (o : Option ℕ) → if_given (λ x. ltb x len) o ≡ true → cell_of rows o i ≡ greatest (λ e. stamp ts e i) (option_to_list o)
   cell-stamp i h None g = refl
   cell-stamp i h (Some e) g = omega (arith, k.stamped e i (ltb-true e len g) h)
 
-  latest-stamp : (i : ℕ) → is_node max-nodes i ≡ true → (o : Option ℕ) → if_given (is_node max-nodes) o ≡ true → cell_of rows (latest_of columns o) i ≡ greatest (λ e. stamp ts e i) (option_to_list (latest ts o))
+  latest-stamp : (i : ℕ) → is_node max_nodes i ≡ true → (o : Option ℕ) → if_given (is_node max_nodes) o ≡ true → cell_of rows (latest_of columns o) i ≡ greatest (λ e. stamp ts e i) (option_to_list (latest ts o))
   latest-stamp i h o g = cell-stamp i h (latest_of columns o) (latest-fits o g) ∙ ap (λ (o : Option ℕ). greatest (λ e. stamp ts e i) (option_to_list o)) (latest_in o g)
 
   -- the counts of a new entry are its timestamp
-  next_count-stamp : (a : ℕ) (b m : Option ℕ) → Admitted len a b m → (i : ℕ) → is_node max-nodes i ≡ true →
+  next_count-stamp : (a : ℕ) (b m : Option ℕ) → Admitted len a b m → (i : ℕ) → is_node max_nodes i ≡ true →
       next_count rows columns a b (latest_of columns (Some a)) (latest_of columns b) m i ≡ next_stamp ts (asked a b m) i
   next_count-stamp a b m ok i h =
       let f : ℕ → ℕ = λ e. stamp ts e i in
@@ -117,9 +73,9 @@ module _ (len : ℕ) (rows : List Row) (columns : List Column) (ts : List Entry)
 
 -- ---- one more entry
 
-module _ (len : ℕ) (rows : List Row) (columns columns' : List Column) (a : ℕ) (b m : Option ℕ) (row : Row) (tall : length rows ≡ max-entries) (ok : Admitted len a b m)
+module _ (len : ℕ) (rows : List Row) (columns columns' : List Column) (a : ℕ) (b m : Option ℕ) (row : Row) (tall : length rows ≡ max_entries) (ok : Admitted len a b m)
     (node : row.node ≡ a) (partner : row.partner ≡ b) (filed : Filed columns a b len columns')
-    (counts : (i : ℕ) → i < max-nodes → get_or row.counts i 0 ≡ next_count rows columns a b (latest_of columns (Some a)) (latest_of columns b) m (i + 1)) where
+    (counts : (i : ℕ) → i < max_nodes → get_or row.counts i 0 ≡ next_count rows columns a b (latest_of columns (Some a)) (latest_of columns b) m (i + 1)) where
   keeps_more : (ts : List Entry) → Keeps len rows columns ts → Keeps (len + 1) (set rows len row) columns' (asked a b m ∷ ts)
   keeps_more ts k =
       let t = asked a b m in
@@ -135,7 +91,7 @@ module _ (len : ℕ) (rows : List Row) (columns columns' : List Column) (a : ℕ
             (subst (Placed len) (sym new) (option_to_list m, rw (node, partner) head));
         stamped = λ e i l h. below_more (λ e. cell (set rows len row) e i ≡ stamp (t ∷ ts) e i) len
             (λ e l. ap (λ (r : Row). get_or r.counts (i - 1) 0) (old e l) ∙ k.stamped e i l h ∙ sym ((stamps_grow t ts i).1 e (omega (arith, k.size))))
-            (let (p, q) = node_bounds max-nodes i h in
+            (let (p, q) = node_bounds max_nodes i h in
             let back : i - 1 + 1 ≡ i = omega arith in
             ap (λ (r : Row). get_or r.counts (i - 1) 0) new
             ∙ subst (λ j. get_or row.counts (i - 1) 0 ≡ next_count rows columns a b (latest_of columns (Some a)) (latest_of columns b) m j) back (counts (i - 1) (omega arith))
@@ -168,10 +124,7 @@ module _ (len : ℕ) (rows : List Row) (columns columns' : List Column) (a : ℕ
 
 -- ---- what a clock answers
 
-module _ (n len : ℕ) (rows : List Row) (columns : List Column) (small : n ≤ max-nodes) (kept : Kept len rows columns) where
-  pub of_takes : Of-takes (rows_mean n len rows)
-  of_takes = ∥∥₁_elim kept ∥∥₁_prop (λ (ts, k). ∣ (ts, entries-kept len rows columns ts k) ∣₁)
-
+module _ (n len : ℕ) (rows : List Row) (columns : List Column) (small : n ≤ max_nodes) (kept : Kept len rows columns) where
   pub cell-tally : (e i : ℕ) → true ≡ (ltb e len && is_node n i) → cell rows e i ≡ tally (within (listed (held_row rows) len) e) (held_at (listed (held_row rows) len) i)
   cell-tally e i h = ∥∥₁_elim kept (ℕ_set _ _) (λ (ts, k).
       let (p, q) = and_parts (ltb e len) (is_node n i) (sym h) in
@@ -181,17 +134,17 @@ module _ (n len : ℕ) (rows : List Row) (columns : List Column) (small : n ≤ 
   line_held i h = ∥∥₁_elim kept (is_set ℕ_set _ _) (λ (ts, k).
       k.filed i (node_up n i small h) ∙ rw (entries-kept len rows columns ts k) (sym (held_timeline ts i)))
 
-  pub latest_held : (o : Option ℕ) → if_given (is_node max-nodes) o ≡ true → if_given (λ x. ltb x len) (latest_of columns o) ≡ true
+  pub latest_held : (o : Option ℕ) → if_given (is_node max_nodes) o ≡ true → if_given (λ x. ltb x len) (latest_of columns o) ≡ true
   latest_held o h = ∥∥₁_elim kept (Bool-set _ _) (λ (ts, k). latest-fits len rows columns ts k o h)
 
-  pub column-room : (i : ℕ) → i < max-nodes → (get_or columns i no_column).len ≤ len
+  pub column-room : (i : ℕ) → i < max_nodes → (get_or columns i no_column).len ≤ len
   column-room i l =
       let back : i + 1 - 1 ≡ i = omega arith in
-      ∥∥₁_elim kept le_prop (λ (ts, k). rw back at (column-low len rows columns ts k (i + 1) (and_from _ _ (le-leb 1 (i + 1) (omega arith)) (le-leb (i + 1) max-nodes (omega arith)))))
+      ∥∥₁_elim kept le_prop (λ (ts, k). rw back at (column-low len rows columns ts k (i + 1) (and_from _ _ (le-leb 1 (i + 1) (omega arith)) (le-leb (i + 1) max_nodes (omega arith)))))
 
 -- ---- no entries
 
-pub kept-none : (rows : List Row) (column : Column) → column.len ≡ 0 → Kept 0 rows (replicate max-nodes column)
+pub kept-none : (rows : List Row) (column : Column) → column.len ≡ 0 → Kept 0 rows (replicate max_nodes column)
 kept-none rows column none = ∣ (
   [],
   record {
@@ -199,7 +152,7 @@ kept-none rows column none = ∣ (
     placed = λ e l. absurd (omega arith);
     stamped = λ e i l. absurd (omega arith);
     filed = λ i h.
-        ap (λ (c : Column). listed (λ k. get_or c.entries k 0) c.len) (get_or-replicate max-nodes (i - 1) column no_column (omega (arith, node_bounds max-nodes i h)))
+        ap (λ (c : Column). listed (λ k. get_or c.entries k 0) c.len) (get_or-replicate max_nodes (i - 1) column no_column (omega (arith, node_bounds max_nodes i h)))
         ∙ ap (listed (λ k. get_or column.entries k 0)) none;
   },
 ) ∣₁

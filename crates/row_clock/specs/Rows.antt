@@ -13,17 +13,17 @@ use Rattle.std.specs.Prelude.{◌≡◌, ℕ, ◌+◌, ◌-◌, ◌<◌, max, Bo
 use Rattle.std.proofs.Common.{zero-le}
 use Rattle.causality.specs.Newest.{entry}
 use Rattle.causality.specs.Entries.{Entry, at_either, newest, timeline, stamp}
-use Rattle.causality.specs.Limits.{max-nodes, is_node}
-use Rattle.clock.specs.Meaning.{Held, Meaning, max-entries}
+use Rattle.causality.specs.Limits.{max_nodes, is_node}
+use Rattle.clock.specs.Meaning.{Held, Meaning, max_entries}
 use Rattle.clock.specs.Arrays.{listed}
 use Rattle.row_clock.specs.declared.parts.Row.{Row}
 use Rattle.row_clock.specs.declared.parts.Column.{Column}
 
 abbrev pub no_row : Row
-no_row = record { node = 1; partner = None; counts = replicate max-nodes 0; wide = refl; placed = refl }
+no_row = record { node = 1; partner = None; counts = replicate max_nodes 0; wide = refl; placed = refl }
 
 abbrev pub no_column : Column
-no_column = record { len = 0; entries = replicate max-entries 0; long = refl; within = zero-le }
+no_column = record { len = 0; entries = replicate max_entries 0; long = refl; within = zero-le }
 
 abbrev pub cell : List Row → ℕ → ℕ → ℕ
 cell rows e i = slice_index (get_or rows e no_row).counts (i - 1)
@@ -53,9 +53,9 @@ pub record Keeps (len : ℕ) (rows : List Row) (columns : List Column) (ts : Lis
   pub placed : (e : ℕ) → e < len →
       (priors : List ℕ) × (entry ts e ≡ Some (record { node = (get_or rows e no_row).node; partner = (get_or rows e no_row).partner; priors = priors }))
   -- and its timestamp
-  pub stamped : (e i : ℕ) → e < len → is_node max-nodes i ≡ true → cell rows e i ≡ stamp ts e i
+  pub stamped : (e i : ℕ) → e < len → is_node max_nodes i ≡ true → cell rows e i ≡ stamp ts e i
   -- each column is the timeline of its node
-  pub filed : (i : ℕ) → is_node max-nodes i ≡ true → line_of columns i ≡ timeline ts i
+  pub filed : (i : ℕ) → is_node max_nodes i ≡ true → line_of columns i ≡ timeline ts i
 
 abbrev pub Kept : ℕ → List Row → List Column → Type 0
 Kept len rows columns = ∥ ((ts : List Entry) × Keeps len rows columns ts) ∥₁
@@ -78,4 +78,4 @@ next_count rows columns a b x y z i =
 -- entry e is appended to the columns of a and b
 abbrev pub Filed : List Column → ℕ → Option ℕ → ℕ → List Column → Type 0
 Filed columns a b e columns' =
-    (i : ℕ) → is_node max-nodes i ≡ true → line_of columns' i ≡ cond (at_either a b i) (e ∷ line_of columns i) (line_of columns i)
+    (i : ℕ) → is_node max_nodes i ≡ true → line_of columns' i ≡ cond (at_either a b i) (e ∷ line_of columns i) (line_of columns i)

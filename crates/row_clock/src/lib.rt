@@ -1,12 +1,13 @@
 //! A clock that keeps the row of counts of each entry and the column of each node, so that a question is one look-up.
+#![tactic(auto)]
 
 ghost use Rattle.std.specs.Prelude.{◌≡◌, ℕ, ◌+◌, ◌<◌, ◌≤◌, max, true, false, ◌∷◌, length, nat_lt, slice_index, slice_index_or};
 ghost use Rattle.causality.specs.Newest.{kth};
 ghost use Rattle.causality.specs.Entries.{is, newest};
-ghost use Rattle.causality.specs.Limits.{max-nodes, is_node};
-ghost use Rattle.clock.specs.Meaning.{max-entries, blank, if_given};
+ghost use Rattle.causality.specs.Limits.{max_nodes, is_node};
+ghost use Rattle.clock.specs.Meaning.{max_entries, blank, if_given};
 ghost use Rattle.row_clock.specs.Rows.{no_column, line, rows_mean, Kept, latest_of, cell_of, next_count, Filed};
-ghost use Rattle.std.proofs.Common.{rules, arith};
+ghost use Rattle.row_clock.specs.Laws.{rows_lawful};
 
 mod parts;
 
@@ -20,8 +21,8 @@ pub struct RowClock {
     len: u16,
     rows: [Row; ENTRIES],
     columns: [Column; NODES],
-    ghost long: { (length rows ≡ max-entries) × (length columns ≡ max-nodes) },
-    ghost within: { (len ≤ max-entries) × (nodes ≤ max-nodes) },
+    ghost long: { (length rows ≡ max_entries) × (length columns ≡ max_nodes) },
+    ghost within: { (len ≤ max_entries) × (nodes ≤ max_nodes) },
     ghost kept: { Kept len rows columns },
 }
 
@@ -48,7 +49,7 @@ impl Column {
     }
 
     fn push(&mut self, e: u16)
-        requires { self.old.len < max-entries }
+        requires { self.old.len < max_entries }
         ensures { line self.new ≡ e ∷ line self.old }
     {
         self.entries[self.len as usize] = e;
@@ -58,7 +59,7 @@ impl Column {
 
 /// Appends entry e to the column of node a, and to that of b.
 fn file(columns: &mut [Column; NODES], a: u16, b: Option<u16>, e: u16)
-    requires { (is_node max-nodes a ≡ true) × ((if_given (is_node max-nodes) b ≡ true) × ((is b a ≡ false) × (((i : ℕ) → i < max-nodes → (slice_index_or columns.old i no_column).len < max-entries)))) }
+    requires { (is_node max_nodes a ≡ true) × ((if_given (is_node max_nodes) b ≡ true) × ((is b a ≡ false) × (((i : ℕ) → i < max_nodes → (slice_index_or columns.old i no_column).len < max_entries)))) }
     ensures filed { Filed columns.old a b e columns.new }
     ensures long { length columns.new ≡ length columns.old }
 {
@@ -77,7 +78,7 @@ fn greater(x: u16, y: u16) -> u16
 impl RowClock {
     /// Sets n nodes and no entries.
     fn clear(&mut self, n: u16)
-        requires { is_node max-nodes n ≡ true }
+        requires { is_node max_nodes n ≡ true }
         ensures { rows_mean self.new.nodes self.new.len self.new.rows ≡ blank n }
     {
         self.nodes = n;
@@ -90,7 +91,7 @@ impl RowClock {
 
     /// The latest entry at node i.
     fn latest(&self, i: Option<u16>) -> Option<u16>
-        requires { if_given (is_node max-nodes) i ≡ true }
+        requires { if_given (is_node max_nodes) i ≡ true }
         ensures { result ≡ latest_of self.now.columns i }
     {
         match i {
@@ -101,7 +102,7 @@ impl RowClock {
 
     /// The count of entry e at node i, 0 if no entry is given.
     fn cell(&self, e: Option<u16>, i: u16) -> u16
-        requires { (if_given (λ x. nat_lt x max-entries) e ≡ true) × (is_node max-nodes i ≡ true) }
+        requires { (if_given (λ x. nat_lt x max_entries) e ≡ true) × (is_node max_nodes i ≡ true) }
         ensures { result ≡ cell_of self.now.rows e i }
     {
         match e {
@@ -120,7 +121,7 @@ impl RowClock {
         z: Option<u16>,
         i: u16,
     ) -> u16
-        requires { (if_given (λ e. nat_lt e max-entries) x ≡ true) × ((if_given (λ e. nat_lt e max-entries) y ≡ true) × ((if_given (λ e. nat_lt e max-entries) z ≡ true) × (is_node max-nodes i ≡ true))) }
+        requires { (if_given (λ e. nat_lt e max_entries) x ≡ true) × ((if_given (λ e. nat_lt e max_entries) y ≡ true) × ((if_given (λ e. nat_lt e max_entries) z ≡ true) × (is_node max_nodes i ≡ true))) }
         ensures { result ≡ next_count self.now.rows self.now.columns a b x y z i }
     {
         if stands(a, b, i) {
@@ -139,8 +140,8 @@ impl RowClock {
         y: Option<u16>,
         z: Option<u16>,
     ) -> [u16; NODES]
-        requires { (if_given (λ e. nat_lt e max-entries) x ≡ true) × ((if_given (λ e. nat_lt e max-entries) y ≡ true) × (if_given (λ e. nat_lt e max-entries) z ≡ true)) }
-        ensures { (i : ℕ) → i < max-nodes → slice_index result i ≡ next_count self.now.rows self.now.columns a b x y z (i + 1) }
+        requires { (if_given (λ e. nat_lt e max_entries) x ≡ true) × ((if_given (λ e. nat_lt e max_entries) y ≡ true) × (if_given (λ e. nat_lt e max_entries) z ≡ true)) }
+        ensures { (i : ℕ) → i < max_nodes → slice_index result i ≡ next_count self.now.rows self.now.columns a b x y z (i + 1) }
     {
         let mut counts = [0; NODES];
         for i in 0..NODES {
@@ -153,13 +154,13 @@ impl RowClock {
 impl Clock for RowClock {
     ghost means = { λ s. rows_mean s.nodes s.len s.rows };
 
-    ghost own = { first_of (Prim.search rules, Prim.grind (arith, Self.row.coded.inj)) };
+    ghost own = { λ s. (rows_lawful s.nodes s.len s.rows s.columns s.within.1 s.kept).own };
 
-    ghost through = { first_of (Prim.search rules, Prim.grind (arith, Self.row.coded.inj)) };
+    ghost through = { λ s. (rows_lawful s.nodes s.len s.rows s.columns s.within.1 s.kept).through };
 
-    ghost earliest = { first_of (Prim.search rules, Prim.grind (arith, Self.row.coded.inj)) };
+    ghost earliest = { λ s. (rows_lawful s.nodes s.len s.rows s.columns s.within.1 s.kept).earliest };
 
-    ghost no_higher = { first_of (Prim.search rules, Prim.grind (arith, Self.row.coded.inj)) };
+    ghost no_higher = { λ s. (rows_lawful s.nodes s.len s.rows s.columns s.within.1 s.kept).no_higher };
 
     fn new() -> RowClock {
         RowClock {

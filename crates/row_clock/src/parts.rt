@@ -1,8 +1,8 @@
 //! What a row clock keeps of each entry, and of each node.
 
 ghost use Rattle.std.specs.Prelude.{◌≡◌, ◌≤◌, true, length};
-ghost use Rattle.causality.specs.Limits.{max-nodes, is_node};
-ghost use Rattle.clock.specs.Meaning.{max-entries};
+ghost use Rattle.causality.specs.Limits.{max_nodes, is_node};
+ghost use Rattle.clock.specs.Meaning.{max_entries};
 
 use clock::{MAX_ENTRIES, MAX_NODES};
 
@@ -17,8 +17,8 @@ pub struct Row {
     pub node: u16,
     pub partner: Option<u16>,
     pub counts: [u16; NODES],
-    ghost wide: { length counts ≡ max-nodes },
-    ghost placed: { is_node max-nodes node ≡ true },
+    ghost wide: { length counts ≡ max_nodes },
+    ghost placed: { is_node max_nodes node ≡ true },
 }
 
 /// A node: the numbers of its entries, from the oldest.
@@ -26,6 +26,6 @@ pub struct Row {
 pub struct Column {
     pub len: u16,
     pub entries: [u16; ENTRIES],
-    ghost long: { length entries ≡ max-entries },
-    ghost within: { len ≤ max-entries },
+    ghost long: { length entries ≡ max_entries },
+    ghost within: { len ≤ max_entries },
 }

@@ -1,6 +1,7 @@
 //! An ordered table over a slice of records, one text for every kind of record.
 //!
 //! Each kind of record says what its key is (`Keyed`), and each kind of key how it is ordered (`KeyOrder`).
+#![tactic(auto)]
 
 ghost use Rattle.std.specs.Prelude.{◌≡◌, ◌+◌, ◌<◌, ◌≤◌, Bool, true, false, length, take, drop, nat_lt};
 ghost use Rattle.table.specs.Tables.{Lacks, Rising, Stands, placed};

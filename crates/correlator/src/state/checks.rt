@@ -2,7 +2,7 @@
 
 ghost use Rattle.correlator.specs.Posted.{event_of};
 ghost use Rattle.correlator.specs.State.{history, local_tests, meet_tests, receive_tests, send_tests};
-ghost use Rattle.causality.specs.Limits.{max-events};
+ghost use Rattle.causality.specs.Limits.{max_events};
 ghost use Rattle.history.specs.Answers.{reason};
 ghost use Rattle.history.specs.Calls.{first_that, in_trace};
 ghost use Rattle.history.specs.declared.refusal.Refusal.TheVariants.{Full};
@@ -32,7 +32,7 @@ impl<F: Clock, R: Clock> Correlator<F, R> {
 
     // One more event may be held.
     fn check_room(&self) -> Result<(), Refusal>
-        ensures { reason result ≡ first_that ((nat_le max-events self.now.len, Full) ∷ []) }
+        ensures { reason result ≡ first_that ((nat_le max_events self.now.len, Full) ∷ []) }
     {
         if self.len >= MAX_EVENTS {
             return Err(Refusal::Full);

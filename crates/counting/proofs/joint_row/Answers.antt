@@ -1,5 +1,4 @@
-use Rattle.std.proofs.Common.{◌≡◌, ℕ, ◌-◌, List, ◌++◌, map, length, take, drop, sym, ap, ◌∙◌, arith}
-use Rattle.std.proofs.lemmas.List.{take_all}
+use Rattle.std.proofs.Common.{ℕ, ◌-◌, List, length, take, ap, ◌∙◌, arith}
 use Rattle.gathering.specs.declared.Row.{Row}
 use Rattle.gathering.specs.Gathering.{joined_all}
 use Rattle.counting.specs.Counting.{count_row}

@@ -1,4 +1,4 @@
-use Rattle.std.proofs.Common.{◌≡◌, ℕ, suc, ◌+◌, ◌<◌, List, length, set, sym, ap, ◌∙◌, ap₂, add-one, arith}
+use Rattle.std.proofs.Common.{◌≡◌, ℕ, suc, ◌<◌, List, length, set, sym, ap, ◌∙◌, ap₂, add-one, arith}
 use Rattle.clock.specs.Meaning.{counted}
 use Rattle.history.specs.Answers.{with_row}
 use Rattle.counting.specs.Counting.{or_zero}

@@ -1,4 +1,4 @@
-use Rattle.std.proofs.Common.{◌≡◌, length, set, sym, ap, ◌∙◌, arith, rules}
+use Rattle.std.proofs.Common.{◌≡◌, length, ◌∙◌, arith, rules}
 use Rattle.gathering.specs.Zips.{upto_more, upto_all}
 use Rattle.gathering.proofs.each_place.Goals as goal
 

@@ -1,4 +1,4 @@
-use Rattle.std.proofs.Common.{◌≡◌, Some, sym, ap, ◌∙◌, ap₂}
+use Rattle.std.proofs.Common.{Some, sym, ap, ◌∙◌, ap₂}
 use Rattle.gathering.specs.Gathering.{joined_two}
 use Rattle.gathering.proofs.Folds.{joined_parts}
 use Rattle.gathering.proofs.gather_parts.Goals as goal

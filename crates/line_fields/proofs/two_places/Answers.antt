@@ -4,26 +4,26 @@ use Rattle.line_parts.specs.Parts.{placed}
 use Rattle.line_parts.proofs.Reading.{place_end, place_space, same_place, whole}
 use Rattle.line_fields.proofs.two_places.Goals as goal
 
-pub returns-in-err-p : goal.returns-in-err-p
-returns-in-err-p c = rw c.from-residual.ensures (λ p q sp sq e. c.in-err-p.ensures p _ (place_space p _ refl sp e))
+pub returns-in_err-p : goal.returns-in_err-p
+returns-in_err-p c = rw c.from_residual.ensures (λ p q sp sq e. c.in_err-p.ensures p _ (place_space p _ refl sp e))
 
-pub returns-in-err-rest : goal.returns-in-err-rest
-returns-in-err-rest c = rw c.from-residual-in-err-rest.ensures (λ p q sp sq e. c.in-err-rest.ensures _ (same_place c.in-ok-p.ensures (place_space p _ refl sp e)).1)
+pub returns-in_err-rest : goal.returns-in_err-rest
+returns-in_err-rest c = rw c.from_residual-in_err-rest.ensures (λ p q sp sq e. c.in_err-rest.ensures _ (same_place c.in_ok-p.ensures (place_space p _ refl sp e)).1)
 
-pub returns-in-err-q : goal.returns-in-err-q
-returns-in-err-q c = rw c.from-residual-in-err-q.ensures (λ p q sp sq e.
-    c.in-err-q.ensures q _ (place_end q sq (ap (drop 4) (sym c.in-ok-rest.ensures ∙ (same_place c.in-ok-p.ensures (place_space p _ refl sp e)).1))))
+pub returns-in_err-q : goal.returns-in_err-q
+returns-in_err-q c = rw c.from_residual-in_err-q.ensures (λ p q sp sq e.
+    c.in_err-q.ensures q _ (place_end q sq (ap (drop 4) (sym c.in_ok-rest.ensures ∙ (same_place c.in_ok-p.ensures (place_space p _ refl sp e)).1))))
 
 pub returns-then-is_empty : goal.returns-then-is_empty
 returns-then-is_empty c =
-    let a = c.in-ok-p.ensures in
-    let b = c.in-ok-q.ensures in (
+    let a = c.in_ok-p.ensures in
+    let b = c.in_ok-q.ensures in (
       a.sound,
       b.sound,
-      a.spelt ∙ ap (λ l. placed c.in-ok-p.p ++ l) (c.in-ok-rest.ensures ∙ ap (λ l. codes " to=" ++ l) (whole b (nil_from_length _ (search rules)))),
+      a.spelt ∙ ap (λ l. placed c.in_ok-p.p ++ l) (c.in_ok-rest.ensures ∙ ap (λ l. codes " to=" ++ l) (whole b (nil_from_length _ (search rules)))),
     )
 
 pub returns-else-is_empty : goal.returns-else-is_empty
 returns-else-is_empty c p q sp sq e =
-    let same = same_place c.in-ok-q.ensures (place_end q sq (ap (drop 4) (sym c.in-ok-rest.ensures ∙ (same_place c.in-ok-p.ensures (place_space p _ refl sp e)).1))) in
+    let same = same_place c.in_ok-q.ensures (place_end q sq (ap (drop 4) (sym c.in_ok-rest.ensures ∙ (same_place c.in_ok-p.ensures (place_space p _ refl sp e)).1))) in
     search (rules, same)

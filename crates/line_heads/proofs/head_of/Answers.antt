@@ -29,6 +29,6 @@ returns-in-111-2 c = search (rules, opened (codes "order="))
 pub returns-in-97 : goal.returns-in-97
 returns-in-97 c = search (rules, opened (codes "ask="))
 
-pub returns-in-default : goal.returns-in-default
-returns-in-default c =
+pub returns-in_default : goal.returns-in_default
+returns-in_default c =
     record { nodes = search rules; local = search rules; send = search rules; receive = search rules; meet = search rules; close = search rules; op = search rules; order = search rules; ask = search rules }

@@ -1,4 +1,4 @@
-use Rattle.std.proofs.Common.{◌≡◌, get_or, Some, sym, ap, ◌∙◌, inl, inr, arith}
+use Rattle.std.proofs.Common.{get_or, Some, sym, ap, ◌∙◌, inl, inr, arith}
 use Rattle.std.proofs.lemmas.List.{at_drop_all, length-set}
 use Rattle.history.specs.History.{all_letters}
 use Rattle.names.proofs.Packing.{no_name, no_letters, a_name, letters_stop, letters_more, filled_more, filled_all, places-number}

@@ -5,10 +5,10 @@ use Rattle.job_text.proofs.Cuts.{cut_shorter}
 use Rattle.job_text.proofs.Texts.{begin_more, none-line, none_tail, some_byte}
 use Rattle.job_text.proofs.scan.check_text.Goals as goal
 
-pub returns-in-default-read_line : goal.returns-in-default-read_line
-returns-in-default-read_line c =
+pub returns-in_default-read_line : goal.returns-in_default-read_line
+returns-in_default-read_line c =
     let cut = c.in-Some.ensures in
-    record { bytes = search rules; few = search rules; good = _; next = refl; rest = _; before = c.loop-line.invariant.0; some = search (rules, cut_shorter); none = none-line cut c.in-default-read_line.ensures }
+    record { bytes = search rules; few = search rules; good = _; next = refl; rest = _; before = c.loop-line.invariant.0; some = search (rules, cut_shorter); none = none-line cut c.in_default-read_line.ensures }
 
 pub loop-line-smaller : goal.loop-line-smaller
 loop-line-smaller c = search (rules, cut_shorter)
@@ -21,5 +21,5 @@ loop-line-preserved c = (
 
 pub returns-else-at_end : goal.returns-else-at_end
 returns-else-at_end c =
-    let end = c.in-default.ensures in
+    let end = c.in_default.ensures in
     record { bytes = search rules; few = search rules; good = _; next = refl; rest = _; before = c.loop-line.invariant.0; some = search (rules, some_byte, not_from_Decides); none = none_tail end.clear }

@@ -20,5 +20,5 @@ returns-in-109 c = search (rules, opened (codes "meet="))
 pub returns-in-111 : goal.returns-in-111
 returns-in-111 c = search (rules, opened (codes "order="))
 
-pub returns-in-default : goal.returns-in-default
-returns-in-default c = record { nodes = search rules; local = search rules; send = search rules; receive = search rules; meet = search rules; order = search rules }
+pub returns-in_default : goal.returns-in_default
+returns-in_default c = record { nodes = search rules; local = search rules; send = search rules; receive = search rules; meet = search rules; order = search rules }

@@ -3,8 +3,8 @@ use Rattle.std.proofs.lemmas.List.{get_or-drop, get_or_past}
 use Rattle.line_forms.proofs.Reading.{more, too_large, begins, number-here}
 use Rattle.line_forms.proofs.parts.read_number.Goals as goal
 
-pub returns-in-default : goal.returns-in-default
-returns-in-default c n rest h = search (rules, begins _ _ _ h)
+pub returns-in_default : goal.returns-in_default
+returns-in_default c n rest h = search (rules, begins _ _ _ h)
 
 pub returns-then-n-gt-MAX_NUMBER : goal.returns-then-n-gt-MAX_NUMBER
 returns-then-n-gt-MAX_NUMBER c = search (rules, too_large)

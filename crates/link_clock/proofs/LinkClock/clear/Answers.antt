@@ -3,5 +3,5 @@ use Rattle.std.proofs.Common.{rules}
 use Rattle.link_clock.proofs.Links.{kept-none}
 use Rattle.link_clock.proofs.LinkClock.clear.Goals as goal
 
-pub invariant-of-self : goal.invariant-of-self
-invariant-of-self c = (search rules, (search rules, (kept-none _, tt)))
+pub invariant_of-self : goal.invariant_of-self
+invariant_of-self c = record { long = search rules; within = search rules; kept = kept-none _ }

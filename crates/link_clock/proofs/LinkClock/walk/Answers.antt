@@ -1,6 +1,6 @@
 -- A walk visits each entry from e down to the oldest.
 use Rattle.std.proofs.Common.{◌≡◌, ℕ, suc, ◌+◌, ◌-◌, ◌<◌, Bool, List, get_or, subst, arith}
-use Rattle.clock.specs.Meaning.{max-entries}
+use Rattle.clock.specs.Meaning.{max_entries}
 use Rattle.link_clock.specs.declared.LinkClock.{LinkClock}
 use Rattle.link_clock.specs.Links.{no_link, visited, hits, Walked}
 use Rattle.link_clock.proofs.Links.{earlier_up, Linked, linked}
@@ -18,7 +18,7 @@ visit-count-requires c =
     let s = c.args.self.now in
     let z = c.loop-x.x - 1 in
     let low : z < s.len = omega (arith, c.loop-x.invariant.low, c.loop-x-test.true, c.requires) in
-    (omega (arith, s.within), earlier_up z max-entries (get_or s.links z no_link) (omega (arith, s.within)) ((of s).low z low))
+    (omega (arith, s.within), earlier_up z max_entries (get_or s.links z no_link) (omega (arith, s.within)) ((of s).low z low))
 
 step : (s : LinkClock) (e i x count n : ℕ) (marks marks' : List Bool) → e < s.len → 0 < x → Walked s.links s.len e i marks x count →
     marks' ≡ visited s.links marks (x - 1) → n ≡ hits s.links marks (x - 1) i → Walked s.links s.len e i marks' (x - 1) (count + n)

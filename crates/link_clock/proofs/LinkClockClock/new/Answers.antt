@@ -3,5 +3,5 @@ use Rattle.std.proofs.Common.{rules}
 use Rattle.link_clock.proofs.Links.{kept-none}
 use Rattle.link_clock.proofs.LinkClockClock.new.Goals as goal
 
-pub invariant-of-result : goal.invariant-of-result
-invariant-of-result c = (search rules, (search rules, (kept-none _, tt)))
+pub invariant_of-result : goal.invariant_of-result
+invariant_of-result c = record { long = search rules; within = search rules; kept = kept-none _ }

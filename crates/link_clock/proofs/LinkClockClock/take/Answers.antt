@@ -31,14 +31,18 @@ module _ (s : LinkClock) (a : ℕ) (b m : Option ℕ) (h : true ≡ admits s.nod
         value,
       )
 
-pub invariant-of-self : goal.invariant-of-self
-invariant-of-self c =
+pub invariant_of-self : goal.invariant_of-self
+invariant_of-self c =
     let s = c.args.self.now in
     let h = c.if-not-admits.ensures in
     let k = ok s c.args.a c.args.b c.args.m h in
     let (kept, _, _) = grown s c.args.a c.args.b c.args.m h c.latest_at-own.result c.latest_at-other.result c.note.new.latest
     c.latest_at-own.ensures c.latest_at-other.ensures c.note.ensures.noted in
-    ((length-set s.links s.len _ ∙ s.long.0, c.note.ensures.long ∙ s.long.1), ((omega (arith, k.room), s.within.1), (kept, tt)))
+    record {
+      long = (length-set s.links s.len _ ∙ s.long.0, c.note.ensures.long ∙ s.long.1);
+      within = (omega (arith, k.room), s.within.1);
+      kept = kept;
+    }
 
 pub returns : goal.returns
 returns c =

@@ -12,9 +12,9 @@ loop-k-preserved g c = one_more c.in-Some-read_line.call c.loop-k.invariant c.in
 pub returns-after-loop-k : goal.returns-after-loop-k
 returns-after-loop-k g c = record { room = search rules; played = done_all c.loop-k.invariant (none_left c.loop-k.invariant (search rules)) (search rules) }
 
-pub returns-in-default : goal.returns-in-default
-returns-in-default g c =
-    record { room = search rules; played = done_all c.loop-k.invariant (no_more c.loop-k.invariant c.in-default.ensures) (search rules) }
+pub returns-in_default : goal.returns-in_default
+returns-in_default g c =
+    record { room = search rules; played = done_all c.loop-k.invariant (no_more c.loop-k.invariant c.in_default.ensures) (search rules) }
 
-pub returns-in-default-read_line : goal.returns-in-default-read_line
-returns-in-default-read_line g c = absurd (readable c.loop-k.invariant c.in-Some.ensures c.in-default-read_line.ensures)
+pub returns-in_default-read_line : goal.returns-in_default-read_line
+returns-in_default-read_line g c = absurd (readable c.loop-k.invariant c.in-Some.ensures c.in_default-read_line.ensures)

@@ -3,5 +3,5 @@ use Rattle.std.proofs.Common.{refl, rules}
 use Rattle.row_clock.proofs.Rows.{kept-none}
 use Rattle.row_clock.proofs.RowClock.clear.Goals as goal
 
-pub invariant-of-self-2 : goal.invariant-of-self-2
-invariant-of-self-2 c = (search rules, (search rules, (kept-none _ _ refl, tt)))
+pub invariant_of-self-2 : goal.invariant_of-self-2
+invariant_of-self-2 c = record { long = search rules; within = search rules; kept = kept-none _ _ refl }

@@ -1,4 +1,4 @@
-use Rattle.std.proofs.Common.{◌≡◌, ◌<◌, List, [], length, refl, ap, arith, rules}
+use Rattle.std.proofs.Common.{◌<◌, List, length, refl, ap, arith, rules}
 use Rattle.causality.specs.declared.Event.{Event}
 use Rattle.history.specs.History.{History, no_operations}
 use Rattle.correlator.proofs.Kept.{kept_more}

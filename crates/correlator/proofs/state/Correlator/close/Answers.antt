@@ -1,4 +1,4 @@
-use Rattle.std.proofs.Common.{◌≡◌, ℕ, Bool, cond, List, [], reverse, length, take, Option, sym, refl, ap, ◌∙◌, subst, ap₂}
+use Rattle.std.proofs.Common.{◌≡◌, ℕ, cond, List, [], take, sym, refl, ap, ◌∙◌, ap₂}
 use mathlib.Core.List.{reverse-reverse}
 use Rattle.causality.specs.declared.Event.{Event}
 use Rattle.causality.specs.Traces.{backward}

@@ -1,4 +1,4 @@
-use Rattle.std.proofs.Common.{◌≡◌, ℕ, ◌-◌, length, sym, refl, ap, ◌∙◌, rules}
+use Rattle.std.proofs.Common.{ℕ, ◌-◌, length, sym, refl, ap, ◌∙◌, rules}
 use Rattle.history.specs.Calls.{Call}
 use Rattle.clock.specs.Meaning.{counted}
 use Rattle.counting.specs.Counting.{or_zero}
@@ -7,8 +7,8 @@ use Rattle.correlator.proofs.Events.{obeyed}
 use Rattle.correlator.proofs.Questions.{stamp-refusal, row-stamped, forward-count, reverse-count, reverse-closed}
 use Rattle.correlator.proofs.state.Correlator.stamp.Goals as goal
 
-pub returns-in-err-x : goal.returns-in-err-x
-returns-in-err-x g c pre =
+pub returns-in_err-x : goal.returns-in_err-x
+returns-in_err-x g c pre =
     let same = stamp-refusal g.F.Clock.means g.R.Clock.means c.args.self.now pre c.args.p c.args.d (length c.args.row.now) in
     search rules
 
@@ -20,8 +20,8 @@ returns-then-d-eq-FORWARD g c pre =
     let p = c.args.p in
     let d = c.args.d in
     let len = length c.args.row.now in
-    let x = c.in-ok-x.x in
-    let found = c.in-ok-x.ensures in
+    let x = c.in_ok-x.x in
+    let found = c.in_ok-x.ensures in
     let free = sym (found.first ∙ stamp-refusal f r s pre p d len) in (
       obeyed (history s) (history s) (Call.stamp p d len) tt (λ _. Unit {0}) free refl tt,
       c.write_counts.ensures ∙ row-stamped f r s pre p d len x _ c.args.row.now free found.event (λ i. forward-count f r s pre p d x i c.if-d-eq-FORWARD.true found.event),
@@ -35,8 +35,8 @@ returns-else-d-eq-FORWARD g c pre =
     let p = c.args.p in
     let d = c.args.d in
     let len = length c.args.row.now in
-    let x = c.in-ok-x.x in
-    let found = c.in-ok-x.ensures in
+    let x = c.in_ok-x.x in
+    let found = c.in_ok-x.ensures in
     let free = sym (found.first ∙ stamp-refusal f r s pre p d len) in
     let last = c.saturating_sub-else-d-eq-FORWARD.ensures ∙ ap (λ (n : ℕ). n - x) c.saturating_sub.ensures in (
       obeyed (history s) (history s) (Call.stamp p d len) tt (λ _. Unit {0}) free refl tt,

@@ -1,4 +1,4 @@
-use Rattle.std.proofs.Common.{◌≡◌, ℕ, ◌<◌, cond, eqb, length, get_or, take, set, Some, None, Option, sym, refl, ap, ◌∙◌, inl, inr, arith}
+use Rattle.std.proofs.Common.{◌≡◌, ℕ, cond, eqb, get_or, take, Some, None, Option, sym, refl, ap, ◌∙◌, inl, inr}
 use Rattle.std.proofs.lemmas.List.{length-set, get_or-take}
 use Rattle.std.proofs.lemmas.Bool.{cases_Bool, eqb-true}
 use Rattle.table.proofs.Lookups.{lacks_lookup, inside, found-lookup, changed_lookup, changed_rising}
@@ -17,16 +17,17 @@ unseen : (k m e : ℕ) (o : Option Sent) (held : ℕ → Option Sent) → o ≡ 
 unseen k m e o held f g =
     elim (cases_Bool (eqb k m)) [ inl u ↦ let h : o ≡ None = f ∙ ap held (sym (eqb-true k m u)) ∙ g in rw (u, h) | inr u ↦ rw u refl ]
 
-pub invariant-of-self : goal.invariant-of-self
-invariant-of-self c =
+pub invariant_of-self : goal.invariant_of-self
+invariant_of-self c =
     let s = c.args.self.now in
     let at = c.in-Some.at in
     let found = c.in-Some.ensures in
     let low = inside key_of s.records s.len (room s) s.rising at found.0 in
-    let same = ap key_of (sym (get_or-take s.len s.records at no_sent low)) ∙ found.1 no_sent in (
-      rw length-set s.long,
-      (s.within, (changed_rising key_of s.records s.len (room s) s.rising at c.args.message no_sent found.0 found.1 (with_receipt c.args.event (get_or s.records at no_sent)) same, tt)),
-    )
+    let same = ap key_of (sym (get_or-take s.len s.records at no_sent low)) ∙ found.1 no_sent in record {
+      long = rw length-set s.long;
+      within = s.within;
+      rising = changed_rising key_of s.records s.len (room s) s.rising at c.args.message no_sent found.0 found.1 (with_receipt c.args.event (get_or s.records at no_sent)) same;
+    }
 
 pub returns-in-Some : goal.returns-in-Some
 returns-in-Some c =

@@ -6,15 +6,15 @@ use Rattle.history.specs.History.{is_none, with-member, gathered, some_unnamed}
 use Rattle.summaries.specs.Members.{listed}
 use Rattle.summaries.proofs.members.methods.members_at.Goals as goal
 
-pub returns-in-err-event : goal.returns-in-err-event
-returns-in-err-event g c =
+pub returns-in_err-event : goal.returns-in_err-event
+returns-in_err-event g c =
     let names : Place → Option ℕ = found_at (g.C.Clock.means c.args.clock.now) in
     let ps = c.args.places.now in
     let i = c.loop-p.p-index in
     let p : Place = get_or ps i (record { node = 0; index = 0 }) in
-    let none : names p ≡ None = sym c.in-err-event.ensures in
+    let none : names p ≡ None = sym c.in_err-event.ensures in
     let next : some_unnamed names (drop i ps) ≡ (is_none (names p) || some_unnamed names (drop (i + 1) ps)) = at_drop_more (some_unnamed names) ps i (record { node = 0; index = 0 }) c.loop-p-test.true in
-    rw c.from-residual.ensures (sym c.loop-p.invariant.1 ∙ next ∙ rw none)
+    rw c.from_residual.ensures (sym c.loop-p.invariant.1 ∙ next ∙ rw none)
 
 pub loop-p-preserved : goal.loop-p-preserved
 loop-p-preserved g c =
@@ -24,7 +24,7 @@ loop-p-preserved g c =
     let none : Place = record { node = 0; index = 0 } in
     let p : Place = get_or ps i none in
     let ms = listed c.loop-p.members in
-    let found : names p ≡ Some c.in-ok-event.event = sym c.in-ok-event.ensures in
+    let found : names p ≡ Some c.in_ok-event.event = sym c.in_ok-event.ensures in
     let next : some_unnamed names (drop i ps) ≡ (is_none (names p) || some_unnamed names (drop (i + 1) ps)) = at_drop_more (some_unnamed names) ps i none c.loop-p-test.true in
     let more : gathered names ms (drop i ps) ≡ gathered names (with-member ms (names p)) (drop (i + 1) ps) = at_drop_more (gathered names ms) ps i none c.loop-p-test.true in (
       omega (arith, c.add.ensures.len, c.loop-p.invariant.0),
