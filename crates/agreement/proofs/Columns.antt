@@ -1,6 +1,6 @@
 -- Events stand at nodes alone, so that columns equal at the nodes are equal everywhere, and places name events alike.
 use Rattle.std.proofs.Common.{◌≡◌, ℕ, ◌-◌, ◌≤◌, true, false, eqb, leb, List, [], ◌∷◌, length, Some, None, Option, sym, refl, ap, ◌∙◌, subst, inl, inr, arith}
-use Rattle.std.specs.List.{AllByRecursion as All}
+use Rattle.std.specs.List.{AllByRecursion}
 use Rattle.std.proofs.lemmas.Bool.{cases_Bool, cases_eq, or_cases, and_parts, both_ways, eqb-true, leb-true, false≢true, true≢false}
 use Rattle.std.proofs.lemmas.Bool.Decides.{nat_tests}
 use Rattle.causality.specs.declared.Event.{Event}
@@ -36,7 +36,7 @@ only_nodes h lawful i x m =
     let (low, high) = and_parts (leb 1 i) (leb i h.nodes) (fits-node h.nodes v fits i s) in
     (leb-true 1 i low, leb-true i h.nodes high)
 
-no_column : (n i : ℕ) → is_node n i ≡ false → (vs : List Event) → All (Fits n) vs → column vs i ≡ []
+no_column : (n i : ℕ) → is_node n i ≡ false → (vs : List Event) → AllByRecursion (Fits n) vs → column vs i ≡ []
 no_column n i out [] all = refl
 no_column n i out (v ∷ vs) (fits, all) =
     elim (cases_Bool (stands v i)) [

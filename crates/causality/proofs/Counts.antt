@@ -1,6 +1,6 @@
 -- Counts tell what a cut holds, and how the timestamp of a new entry comes from earlier ones.
 use Rattle.std.proofs.Common.{◌≡◌, ℕ, suc, ◌-◌, ◌<◌, ◌≤◌, max, Bool, true, false, ◌||◌, List, [], ◌∷◌, length, Some, Decides, refl, ap, ◌∙◌, inl, inr, arith}
-use Rattle.std.specs.List.{AllByRecursion as All}
+use Rattle.std.specs.List.{AllByRecursion}
 use Rattle.std.proofs.ByRecursion.{All-weaker}
 use Rattle.std.proofs.lemmas.Bool.{cases_Bool, ne_eqb, or_left, or_right, or_cases, both_ways, false≢true}
 use Rattle.causality.specs.Newest.{entry, tally, Mem}
@@ -13,14 +13,14 @@ use Rattle.causality.proofs.Pasts.{at_up, at_low, at_top, past-tail, past_head, 
 -- where the test holds of a number, it holds of all behind it
 abbrev pub Closed : (ℕ → Bool) → List ℕ → Type 0
 Closed p [] = Unit {0}
-Closed p (z ∷ zs) = (p z ≡ true → All (λ x. p x ≡ true) zs) × Closed p zs
+Closed p (z ∷ zs) = (p z ≡ true → AllByRecursion (λ x. p x ≡ true) zs) × Closed p zs
 
-pub all-mem : {X : Type 0} (P : X → Type 0) (xs : List X) → ((x : X) → Mem x xs → P x) → All P xs
+pub all-mem : {X : Type 0} (P : X → Type 0) (xs : List X) → ((x : X) → Mem x xs → P x) → AllByRecursion P xs
 all-mem P [] h = tt
 all-mem P (x ∷ xs) h = (h x (inl refl), all-mem P xs (λ y m. h y (inr m)))
 
 module _ (p : ℕ → Bool) where
-  pub tally-all : (c : List ℕ) → All (λ x. p x ≡ true) c → tally p c ≡ length c
+  pub tally-all : (c : List ℕ) → AllByRecursion (λ x. p x ≡ true) c → tally p c ≡ length c
   tally-all [] all = refl
   tally-all (z ∷ zs) (h, all) = rw h (ap suc (tally-all zs all))
 
@@ -49,7 +49,7 @@ module _ (p : ℕ → Bool) where
     closed-mem zs d (λ x y h m n. cut x y h (inr m) (inr n)),
   )
     where
-      all-has : (zs : List ℕ) → All (λ x. x < z) zs → (x : ℕ) → Mem x zs → x < z
+      all-has : (zs : List ℕ) → AllByRecursion (λ x. x < z) zs → (x : ℕ) → Mem x zs → x < z
       all-has [] all x m = absurd m
       all-has (w ∷ ws) (h, all) x (inl e) = rw (← e) h
       all-has (w ∷ ws) (h, all) x (inr m) = all-has ws all x m
@@ -75,7 +75,7 @@ stamps_tell ts e i k x h = counts_tell ts (past ts e) (past-cut ts e) i k x h
 
 -- ---- of sets that are closed, the one that counts more holds the other
 
-tally_like : (p q : ℕ → Bool) (c : List ℕ) → All (λ x. p x ≡ q x) c → tally p c ≡ tally q c
+tally_like : (p q : ℕ → Bool) (c : List ℕ) → AllByRecursion (λ x. p x ≡ q x) c → tally p c ≡ tally q c
 tally_like p q [] h = refl
 tally_like p q (z ∷ zs) (h, hs) = rw (h, tally_like p q zs hs)
 

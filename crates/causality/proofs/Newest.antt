@@ -1,7 +1,7 @@
 -- Lists kept newest first: their numbers, what a test picks of them, and the same lists turned round.
 use Rattle.std.proofs.Common.{◌≡◌, ℕ, suc, ◌+◌, ◌-◌, ◌<◌, Bool, true, false, eqb, ◌⊎◌, List, [], ◌∷◌, ◌++◌, reverse, length, Some, None, sym, refl, ap, ◌∙◌, subst, inl, inr, append_assoc, arith, length-append}
 use mathlib.Core.List.{reverse_aux, reverse-append}
-use Rattle.std.specs.List.{AllByRecursion as All}
+use Rattle.std.specs.List.{AllByRecursion}
 use Rattle.std.proofs.lemmas.List.{length-reverse}
 use Rattle.std.proofs.ByRecursion.{All-weaker}
 use Rattle.std.proofs.lemmas.Bool.{cases_Bool, cases_eq, cases_order, eq-eqb}
@@ -39,7 +39,7 @@ module _ {X : Type 0} where
         | inr h ↦ let (y, f) = entry-some xs n (omega arith) in (y, entry_up x xs n y f)
       ]
 
-  pub all-entry : (P : X → Type 0) (xs : List X) (n : ℕ) (x : X) → All P xs → entry xs n ≡ Some x → P x
+  pub all-entry : (P : X → Type 0) (xs : List X) (n : ℕ) (x : X) → AllByRecursion P xs → entry xs n ≡ Some x → P x
   all-entry P [] n x all e = absurd (nothing e)
   all-entry P (y ∷ ys) n x (h, all) e =
       elim (entry_cases y ys n x e) [ inl (_, same) ↦ subst P same h | inr (_, f) ↦ all-entry P ys n x all f ]
@@ -125,7 +125,7 @@ module _ {X : Type 0} (p : X → Bool) where
 -- each number is above all behind it
 abbrev pub Descending : List ℕ → Type 0
 Descending [] = Unit {0}
-Descending (z ∷ zs) = All (λ x. x < z) zs × Descending zs
+Descending (z ∷ zs) = AllByRecursion (λ x. x < z) zs × Descending zs
 
 pub entry-order : (c : List ℕ) → Descending c → (m n x y : ℕ) → entry c m ≡ Some x → entry c n ≡ Some y → m < n → x < y
 entry-order [] d m n x y e f l = absurd (nothing e)
@@ -175,7 +175,7 @@ module _ {X : Type 0} (p : X → Bool) where
   pub numbers-low : (xs : List X) (n : ℕ) → Mem n (numbers p xs) → n < length xs
   numbers-low xs n m = let (x, e, _) = numbers_out xs n m in entry-low xs n x e
 
-  below : (xs : List X) → All (λ n. n < length xs) (numbers p xs)
+  below : (xs : List X) → AllByRecursion (λ n. n < length xs) (numbers p xs)
   below [] = tt
   below (x ∷ xs) =
       let older = All-weaker (λ n. n < length xs) (λ n. n < suc (length xs)) (λ n h. omega arith) (numbers p xs) (below xs) in

@@ -1,6 +1,6 @@
 -- The six relations by their cuts.
 use Rattle.std.proofs.Common.{◌≡◌, ℕ, suc, ◌+◌, ◌-◌, ◌<◌, ◌≤◌, min, max, Bool, eqb, ◌⊎◌, List, [], ◌∷◌, reverse, length, Some, None, Option, refl, ◌∙◌, inl, inr, arith}
-use Rattle.std.specs.List.{AllByRecursion as All}
+use Rattle.std.specs.List.{AllByRecursion}
 use Rattle.std.proofs.ByRecursion.{All-weaker}
 use Rattle.std.proofs.lemmas.Bool.{cases_Bool, cases_lt, eq-eqb, eqb-false, or_left}
 use Rattle.std.proofs.lemmas.Bool.Decides.{nat_tests}
@@ -33,7 +33,7 @@ mem-position (z ∷ zs) x m =
       | inr h ↦ rw h (elim m [ inl e ↦ absurd (eqb-false z x h e) | inr n ↦ mem-position zs x n ])
     ]
 
-all_member : {X : Type 0} (P : X → Type 0) (xs : List X) → All P xs → (x : X) → Mem x xs → P x
+all_member : {X : Type 0} (P : X → Type 0) (xs : List X) → AllByRecursion P xs → (x : X) → Mem x xs → P x
 all_member P [] all x m = absurd m
 all_member P (y ∷ ys) (h, all) x (inl e) = rw (← e) h
 all_member P (y ∷ ys) (h, all) x (inr m) = all_member P ys all x m

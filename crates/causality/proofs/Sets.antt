@@ -4,7 +4,7 @@
 -- node i with a number c, as k ≤ c for a past. Where the comparison tells what stands in relation T to each member of a set,
 -- the least or the greatest number of the members tells what stands so to all of them, or to some.
 use Rattle.std.proofs.Common.{◌≡◌, ℕ, ◌⊎◌, ◌↔◌, List, [], ◌∷◌, Some, None, Option, refl, subst, inl, inr}
-use Rattle.std.specs.List.{AllByRecursion as All}
+use Rattle.std.specs.List.{AllByRecursion}
 use Rattle.causality.specs.Newest.{Any, Mem}
 use Rattle.causality.specs.Relations.{joined, merged, joined_if, AtEvery, AtSome}
 use Rattle.causality.proofs.Newest.{nothing}
@@ -19,7 +19,7 @@ Joins P f = (a b : ℕ) → P (f a b) ↔ (P a ⊎ P b)
 -- ---- the numbers of all members, joined
 
 module _ (P : ℕ → Type 0) (f : ℕ → ℕ → ℕ) (Q : ℕ → Type 0) (of : ℕ → ℕ) where
-  all-joined : Meets P f → (x : ℕ) (xs : List ℕ) → ((u : ℕ) → Mem u (x ∷ xs) → Q u ↔ P (of u)) → All Q (x ∷ xs) ↔ P (joined f of x xs)
+  all-joined : Meets P f → (x : ℕ) (xs : List ℕ) → ((u : ℕ) → Mem u (x ∷ xs) → Q u ↔ P (of u)) → AllByRecursion Q (x ∷ xs) ↔ P (joined f of x xs)
   all-joined m x [] each = let e = each x (inl refl) in ((λ h. e.0 h.0), λ h. (e.1 h, tt))
   all-joined m x (u ∷ us) each =
       let e = each x (inl refl) in
@@ -79,7 +79,7 @@ module _ (index : ℕ → ℕ → Option ℕ) (R : ℕ → ℕ → ℕ → Type 
   Placed x = (i : ℕ) × (k : ℕ) × (index i x ≡ Some k)
 
   module _ (C : ℕ → Type 0) (c : ℕ → ℕ) (measures : Measures C c) (f : ℕ → ℕ → ℕ) where
-    pub every_node : ((i d : ℕ) → Meets (λ k. R i k d) f) → (xs : List ℕ) → All Placed xs → All C xs ↔ AtEvery (λ i. joined_if f (index i) xs) (λ i k. R i k (c i))
+    pub every_node : ((i d : ℕ) → Meets (λ k. R i k d) f) → (xs : List ℕ) → AllByRecursion Placed xs → AllByRecursion C xs ↔ AtEvery (λ i. joined_if f (index i) xs) (λ i k. R i k (c i))
     every_node m [] placed = ((λ _ i k e. absurd (nothing e)), λ _. tt)
     every_node m (x ∷ xs) ((i, k, e), placed) =
         let rec = every_node m xs placed in
@@ -89,7 +89,7 @@ module _ (index : ℕ → ℕ → Option ℕ) (R : ℕ → ℕ → ℕ → Type 
           λ g. ((measures x i k e).1 (((both i).0 (g i)).0 k e), rec.1 (λ j. ((both j).0 (g j)).1)),
         )
 
-    pub some-node : ((i d : ℕ) → Joins (λ k. R i k d) f) → (xs : List ℕ) → All Placed xs → Any C xs ↔ AtSome (λ i. joined_if f (index i) xs) (λ i k. R i k (c i))
+    pub some-node : ((i d : ℕ) → Joins (λ k. R i k d) f) → (xs : List ℕ) → AllByRecursion Placed xs → Any C xs ↔ AtSome (λ i. joined_if f (index i) xs) (λ i k. R i k (c i))
     some-node m [] placed = ((λ h. absurd h), λ h. absurd (nothing h.2))
     some-node m (x ∷ xs) ((i, k, e), placed) =
         let rec = some-node m xs placed in
@@ -104,7 +104,7 @@ module _ (index : ℕ → ℕ → Option ℕ) (R : ℕ → ℕ → ℕ → Type 
 
   -- T u x: x stands in relation T to the member u of a set; `of u` measures it
   module _ (T : ℕ → ℕ → Type 0) (of : ℕ → ℕ → ℕ) (s : ℕ) (ss : List ℕ) (each : (u : ℕ) → Mem u (s ∷ ss) → Measures (T u) (of u)) (f : ℕ → ℕ → ℕ) where
-    pub to_all : ((i k : ℕ) → Meets (R i k) f) → Measures (λ x. All (λ u. T u x) (s ∷ ss)) (λ i. joined f (λ u. of u i) s ss)
+    pub to_all : ((i k : ℕ) → Meets (R i k) f) → Measures (λ x. AllByRecursion (λ u. T u x) (s ∷ ss)) (λ i. joined f (λ u. of u i) s ss)
     to_all m x i k e = all-joined (R i k) f (λ u. T u x) (λ u. of u i) (m i k) s ss (λ u h. each u h x i k e)
 
     pub to_any : ((i k : ℕ) → Joins (R i k) f) → Measures (λ x. Any (λ u. T u x) (s ∷ ss)) (λ i. joined f (λ u. of u i) s ss)

@@ -11,7 +11,7 @@
 --   aft vs x i           the reverse timestamp of x: how many events of node i are x or happened after x
 --   joint_past .. joint_reach   the four cuts, at node i
 use Rattle.std.specs.Prelude.{◌≡◌, ℕ, suc, ◌+◌, ◌-◌, ◌<◌, ◌≤◌, min, max, cond, ◌⊎◌, ◌↔◌, List, [], ◌∷◌, length, Some, None, Option, ◌==◌}
-use Rattle.std.specs.List.{AllByRecursion as All}
+use Rattle.std.specs.List.{AllByRecursion}
 use Rattle.causality.specs.declared.Event.{Event}
 use Rattle.causality.specs.Newest.{entry, Any, Mem}
 use Rattle.causality.specs.Entries.{stamp}
@@ -76,14 +76,14 @@ joint_reach vs x xs i = from_end vs i (joined min (λ u. aft vs u i) x xs)
 
 -- what the four cuts of a set tell of the k-th event of a node: z has index k at node i
 pub record CutsOf (vs : List Event) (x : ℕ) (xs : List ℕ) (z i k : ℕ) : Type 0 where
-  pub to_every : All (λ u. To vs z u) (x ∷ xs) ↔ (k ≤ joint_past vs x xs i)
+  pub to_every : AllByRecursion (λ u. To vs z u) (x ∷ xs) ↔ (k ≤ joint_past vs x xs i)
   pub to_some : Any (λ u. To vs z u) (x ∷ xs) ↔ (k ≤ whole_past vs x xs i)
   pub from_some : Any (λ u. To vs u z) (x ∷ xs) ↔ (first_reach vs x xs i ≤ k)
-  pub from_every : All (λ u. To vs u z) (x ∷ xs) ↔ (joint_reach vs x xs i ≤ k)
+  pub from_every : AllByRecursion (λ u. To vs u z) (x ∷ xs) ↔ (joint_reach vs x xs i ≤ k)
 
 abbrev pub CutsTell : Type 0
 CutsTell =
-    (vs : List Event) → Orderly vs → (x : ℕ) (xs : List ℕ) → All (λ u. u < length vs) (x ∷ xs) →
+    (vs : List Event) → Orderly vs → (x : ℕ) (xs : List ℕ) → AllByRecursion (λ u. u < length vs) (x ∷ xs) →
     (z i k : ℕ) → index vs i z ≡ Some k → CutsOf vs x xs z i k
 
 -- ---- the six relations
@@ -97,22 +97,22 @@ AtSome o P = (i : ℕ) × (k : ℕ) × (o i ≡ Some k) × P i k
 
 pub record Six (vs : List Event) (x : ℕ) (xs : List ℕ) (y : ℕ) (ys : List ℕ) : Type 0 where
   -- every x to every y
-  pub r1 : All (λ u. All (λ v. To vs u v) (y ∷ ys)) (x ∷ xs) ↔ AtEvery (last_at vs (x ∷ xs)) (λ i k. k ≤ joint_past vs y ys i)
+  pub r1 : AllByRecursion (λ u. AllByRecursion (λ v. To vs u v) (y ∷ ys)) (x ∷ xs) ↔ AtEvery (last_at vs (x ∷ xs)) (λ i k. k ≤ joint_past vs y ys i)
   -- every x to some y
-  pub r2 : All (λ u. Any (λ v. To vs u v) (y ∷ ys)) (x ∷ xs) ↔ AtEvery (last_at vs (x ∷ xs)) (λ i k. k ≤ whole_past vs y ys i)
+  pub r2 : AllByRecursion (λ u. Any (λ v. To vs u v) (y ∷ ys)) (x ∷ xs) ↔ AtEvery (last_at vs (x ∷ xs)) (λ i k. k ≤ whole_past vs y ys i)
   -- some one y has every x to it
-  pub r2p : Any (λ v. All (λ u. To vs u v) (x ∷ xs)) (y ∷ ys) ↔ AtSome (last_at vs (y ∷ ys)) (λ i k. joint_reach vs x xs i ≤ k)
+  pub r2p : Any (λ v. AllByRecursion (λ u. To vs u v) (x ∷ xs)) (y ∷ ys) ↔ AtSome (last_at vs (y ∷ ys)) (λ i k. joint_reach vs x xs i ≤ k)
   -- some one x goes to every y
-  pub r3 : Any (λ u. All (λ v. To vs u v) (y ∷ ys)) (x ∷ xs) ↔ AtSome (first_at vs (x ∷ xs)) (λ i k. k ≤ joint_past vs y ys i)
+  pub r3 : Any (λ u. AllByRecursion (λ v. To vs u v) (y ∷ ys)) (x ∷ xs) ↔ AtSome (first_at vs (x ∷ xs)) (λ i k. k ≤ joint_past vs y ys i)
   -- every y has some x to it
-  pub r3p : All (λ v. Any (λ u. To vs u v) (x ∷ xs)) (y ∷ ys) ↔ AtEvery (first_at vs (y ∷ ys)) (λ i k. first_reach vs x xs i ≤ k)
+  pub r3p : AllByRecursion (λ v. Any (λ u. To vs u v) (x ∷ xs)) (y ∷ ys) ↔ AtEvery (first_at vs (y ∷ ys)) (λ i k. first_reach vs x xs i ≤ k)
   -- some x to some y
   pub r4 : Any (λ u. Any (λ v. To vs u v) (y ∷ ys)) (x ∷ xs) ↔ AtSome (first_at vs (x ∷ xs)) (λ i k. k ≤ whole_past vs y ys i)
 
 abbrev pub RelationsByCuts : Type 0
 RelationsByCuts =
     (vs : List Event) → Orderly vs → (x : ℕ) (xs : List ℕ) (y : ℕ) (ys : List ℕ) →
-    All (λ u. u < length vs) (x ∷ xs) → All (λ v. v < length vs) (y ∷ ys) → Six vs x xs y ys
+    AllByRecursion (λ u. u < length vs) (x ∷ xs) → AllByRecursion (λ v. v < length vs) (y ∷ ys) → Six vs x xs y ys
 
 -- where a set has a first or a last index, one of its members stands there: the nodes of the set are all that a test visits
 abbrev pub IndexedNodes : Type 0

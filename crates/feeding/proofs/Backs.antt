@@ -2,7 +2,7 @@
 use Rattle.std.proofs.Common.{◌≡◌, ℕ, suc, ◌+◌, ◌-◌, ◌<◌, ◌≤◌, Bool, true, false, cond, ◌||◌, eqb, ◌⊎◌, List, [], ◌∷◌, ◌++◌, reverse, length, get_or, take, drop, Some, None, Option, sym, refl, ap, ◌∙◌, subst, inl, inr, append_assoc, arith, length-append, drop-cons}
 use mathlib.Core.List.{reverse_aux, reverse-reverse}
 use Rattle.std.specs.Option.{option_to_list}
-use Rattle.std.specs.List.{AllByRecursion as All}
+use Rattle.std.specs.List.{AllByRecursion}
 use Rattle.std.proofs.lemmas.List.{length-reverse}
 use Rattle.std.proofs.lemmas.Bool.{cases_Bool, or_parts, or_from, eqb-true, eq-eqb, ne_eqb, eqb-false}
 use Rattle.causality.specs.declared.Event.{Event}
@@ -106,7 +106,7 @@ module _ (vs : List Event) (accepted : Accepted vs) (once : Once vs) (held : ℕ
       (numbers_like p (into v) rest (λ w. rw e (sym (both_some (receives w) m))))
 
   module _ (n : ℕ) (few : length vs ≤ 512) where
-    fed-behind : (front rest : List Event) → reverse vs ≡ front ++ rest → All (Fits n) rest →
+    fed-behind : (front rest : List Event) → reverse vs ≡ front ++ rest → AllByRecursion (Fits n) rest →
         fed_through (meaning n []) (follower held (length vs)) rest ≡ meaning n (entries into rest)
     fed-behind front [] split fits = refl
     fed-behind front (v ∷ rest) split (here, fits) =
@@ -115,14 +115,14 @@ module _ (vs : List Event) (accepted : Accepted vs) (once : Once vs) (held : ℕ
         ap (λ (μ : Meaning). taken μ (node_of v) (partner_of v) (follower held (length vs) v)) (fed-behind (front ++ (v ∷ [])) rest next fits)
         ∙ taken-entry n into v rest (follower held (length vs) v) here low (followers front v rest split (sends v) refl)
 
-    pub fed-whole : All (Fits n) (reverse vs) → fed_through (meaning n []) (follower held (length vs)) (reverse vs) ≡ meaning n (entries into (reverse vs))
+    pub fed-whole : AllByRecursion (Fits n) (reverse vs) → fed_through (meaning n []) (follower held (length vs)) (reverse vs) ≡ meaning n (entries into (reverse vs))
     fed-whole fits = fed-behind [] (reverse vs) refl fits
 
-all_turned : {X : Type 0} (P : X → Type 0) (xs ys : List X) → All P xs → All P ys → All P (reverse_aux xs ys)
+all_turned : {X : Type 0} (P : X → Type 0) (xs ys : List X) → AllByRecursion P xs → AllByRecursion P ys → AllByRecursion P (reverse_aux xs ys)
 all_turned P [] ys h k = k
 all_turned P (x ∷ xs) ys (h, hs) k = all_turned P xs (x ∷ ys) hs (h, k)
 
-pub all-reverse : {X : Type 0} (P : X → Type 0) (xs : List X) → All P xs → All P (reverse xs)
+pub all-reverse : {X : Type 0} (P : X → Type 0) (xs : List X) → AllByRecursion P xs → AllByRecursion P (reverse xs)
 all-reverse P xs h = all_turned P xs [] h tt
 
 pub taken-same : (μ μ' : Meaning) (a a' : ℕ) (b b' m m' : Option ℕ) → μ ≡ μ' → a ≡ a' → b ≡ b' → m ≡ m' → taken μ a b m ≡ taken μ' a' b' m'

@@ -1,7 +1,7 @@
 -- What holds of every history that calls leave: each event stands at nodes of the trace, at two different ones if at two; no
 -- message was sent twice or received twice, and none was received unless it was sent; there are no more events than the limit.
 use Rattle.std.specs.Prelude.{◌≡◌, ℕ, ◌≤◌, Bool, true, false, List, [], ◌∷◌, length, Some, None, Option}
-use Rattle.std.specs.List.{AllByRecursion as All}
+use Rattle.std.specs.List.{AllByRecursion}
 use Rattle.causality.specs.declared.Event.{Event}
 use Rattle.causality.specs.Limits.{max_nodes, max_events, is_node}
 use Rattle.causality.specs.Entries.{is}
@@ -25,7 +25,7 @@ Once [] = Unit {0}
 Once (v ∷ vs) = ((m : ℕ) → receives v ≡ Some m → was_received vs m ≡ false) × Once vs
 
 pub record Lawful (h : History) : Type 0 where
-  pub fits : All (Fits h.nodes) h.events
+  pub fits : AllByRecursion (Fits h.nodes) h.events
   pub accepted : Accepted h.events
   pub once : Once h.events
   pub few : length h.events ≤ max_events

@@ -1,6 +1,6 @@
 -- The sound lines that a text begins with: one more of them, the next of them, and where they end.
 use Rattle.std.proofs.Common.{◌≡◌, ℕ, ◌+◌, ◌<◌, List, [], ◌∷◌, ◌++◌, length, sym, refl, ap, ◌∙◌, append_assoc, arith, length-append}
-use Rattle.std.specs.List.{AllByRecursion as All}
+use Rattle.std.specs.List.{AllByRecursion}
 use Rattle.std.proofs.ByRecursion.{All-push}
 use Rattle.line_forms.specs.Forms.{Sound, written}
 use Rattle.job_text.specs.Lines.{Cut, NoEnd, Uncut}
@@ -40,11 +40,11 @@ pub record Next (ls : List Line) (line rest : List ℕ) : Type 0 where
   pub one : Line
   pub more : List Line
   pub are : ls ≡ one ∷ more
-  pub sound : All Sound (one ∷ more)
+  pub sound : AllByRecursion Sound (one ∷ more)
   pub line-is : line ≡ written one
   pub rest-is : rest ≡ spelt more
 
-pub next-line : {s line rest : List ℕ} (ls : List Line) → All Sound ls → s ≡ spelt ls → Cut s line rest → Next ls line rest
+pub next-line : {s line rest : List ℕ} (ls : List Line) → AllByRecursion Sound ls → s ≡ spelt ls → Cut s line rest → Next ls line rest
 next-line {line = line} {rest = rest} [] sound e cut = absurd (no_cut [] line rest tt (sym e ∙ cut.is))
 next-line {line = line} {rest = rest} (l ∷ ls) sound e cut =
     let same = same-cut line (written l) rest (spelt ls) cut.clear (clear-written l sound.0) (sym cut.is ∙ e) in

@@ -1,6 +1,6 @@
 -- Where a line ends: at the byte 0A, which is 10. Stated by index where a line's end is looked for, and by list where a text is cut.
 use Rattle.std.specs.Prelude.{◌≡◌, ℕ, ◌<◌, ◌≤◌, List, ◌∷◌, ◌++◌, length, ◌≢◌, slice_index, slice_index_or}
-use Rattle.std.specs.List.{AllByRecursion as All}
+use Rattle.std.specs.List.{AllByRecursion}
 
 -- no 0A stands from i up to j
 abbrev pub Clear : List ℕ → ℕ → ℕ → Type 0
@@ -15,7 +15,7 @@ pub record FirstEnd (text : List ℕ) (from e : ℕ) : Type 0 where
 
 -- no 0A stands among the bytes
 abbrev pub NoEnd : List ℕ → Type 0
-NoEnd bs = All (λ b. b ≢ 10) bs
+NoEnd bs = AllByRecursion (λ b. b ≢ 10) bs
 
 -- bs is a line, the 0A that ends it, and rest
 pub record Cut (bs line rest : List ℕ) : Type 0 where

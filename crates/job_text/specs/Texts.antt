@@ -1,6 +1,6 @@
 -- What the check of a text answers, in the words of the format: the text is spelt by a list of sound lines, each with its 0A.
 use Rattle.std.specs.Prelude.{◌≡◌, ℕ, ◌+◌, ◌<◌, ◌≤◌, cond, ◌⊎◌, List, [], ◌∷◌, ◌++◌, length, Ok, Err, Result, ◌==◌, ◌≢◌}
-use Rattle.std.specs.List.{AllByRecursion as All}
+use Rattle.std.specs.List.{AllByRecursion}
 use Rattle.line_forms.specs.Forms.{Sound, written}
 use Rattle.line_forms.specs.declared.forms.Line.{Line}
 use Rattle.job_text.specs.declared.scan.Fault.{Fault}
@@ -39,7 +39,7 @@ TooMuch text = (max_bytes < length text) ⊎ (max_lines < line_count text)
 -- n sound lines, and then rest
 pub record Begins (text : List ℕ) (n : ℕ) (rest : List ℕ) : Type 0 where
   pub lines : List Line
-  pub sound : All Sound lines
+  pub sound : AllByRecursion Sound lines
   pub count : length lines ≡ n
   pub is : text ≡ spelt lines ++ rest
 

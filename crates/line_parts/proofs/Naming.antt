@@ -1,6 +1,6 @@
 -- Names at the front of a list: there is at most one, and the loop over the letters finds it.
 use Rattle.std.proofs.Common.{◌≡◌, ℕ, ◌+◌, ◌-◌, ◌<◌, ◌≤◌, Bool, true, false, ◌&&◌, leb, List, [], ◌∷◌, ◌++◌, length, get_or, take, drop, sym, refl, ap, ◌∙◌, subst, add-zero, arith, take-append-drop}
-use Rattle.std.specs.List.{AllByRecursion as All}
+use Rattle.std.specs.List.{AllByRecursion}
 use Rattle.std.proofs.lemmas.List.{get_or-drop, get_or_past, length-take-le, take_rest}
 use Rattle.std.proofs.lemmas.Bool.{and_parts, both_ways, leb-true, le-leb}
 use Rattle.std.proofs.lemmas.Bool.Decides.{nat_tests}
@@ -8,22 +8,22 @@ use Rattle.history.specs.History.{all_letters, is_letter, is_name}
 use Rattle.line_parts.specs.Parts.{Letter, Name, NameAt}
 use Rattle.line_parts.proofs.Reading.{at_end, at_space, same_run}
 
-letters : (bs : List ℕ) → all_letters bs ≡ true → All Letter bs
+letters : (bs : List ℕ) → all_letters bs ≡ true → AllByRecursion Letter bs
 letters [] e = tt
 letters (b ∷ bs) e = let (f, g) = and_parts (is_letter b) (all_letters bs) e in (f, letters bs g)
 
-letters_back : (bs : List ℕ) → All Letter bs → all_letters bs ≡ true
+letters_back : (bs : List ℕ) → AllByRecursion Letter bs → all_letters bs ≡ true
 letters_back [] h = refl
 letters_back (b ∷ bs) h = rw h.0 (letters_back bs h.1)
 
 -- what a name is
-pub name_parts : (bs : List ℕ) → Name bs → (1 ≤ length bs) × (length bs ≤ 8) × All Letter bs
+pub name_parts : (bs : List ℕ) → Name bs → (1 ≤ length bs) × (length bs ≤ 8) × AllByRecursion Letter bs
 name_parts bs h =
     let (f, g) = and_parts (leb 1 (length bs)) (leb (length bs) 8 && all_letters bs) h in
     let (k, l) = and_parts (leb (length bs) 8) (all_letters bs) g in
     (leb-true 1 (length bs) f, leb-true (length bs) 8 k, letters bs l)
 
-a_name : (bs : List ℕ) → 1 ≤ length bs → length bs ≤ 8 → All Letter bs → Name bs
+a_name : (bs : List ℕ) → 1 ≤ length bs → length bs ≤ 8 → AllByRecursion Letter bs → Name bs
 a_name bs f g h = rw (le-leb 1 (length bs) f, le-leb (length bs) 8 g) (letters_back bs h)
 
 pub no_letter : (b : ℕ) → b < 48 → Letter b → ⊥
@@ -48,7 +48,7 @@ pub name_space : {s : List ℕ} (n rest : List ℕ) → get_or rest 0 0 ≡ 32 �
 name_space = at_space (no_letter 32 (omega arith))
 
 -- i bytes are read, all of them letters, and the next is none
-module _ (s : List ℕ) (i : ℕ) (within : i ≤ length s) (all : All Letter (take i s)) (stop : Letter (get_or s i 0) → ⊥) where
+module _ (s : List ℕ) (i : ℕ) (within : i ≤ length s) (all : AllByRecursion Letter (take i s)) (stop : Letter (get_or s i 0) → ⊥) where
   stop_drop : Letter (get_or (drop i s) 0 0) → ⊥
   stop_drop h = stop (subst Letter (get_or-drop i s 0 0 ∙ ap (λ k. get_or s k 0) (add-zero i)) h)
 

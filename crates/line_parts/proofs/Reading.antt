@@ -3,7 +3,7 @@ use Rattle.std.proofs.Common.{◌≡◌, ℕ, ◌+◌, ◌-◌, ◌*◌, ◌<◌
 use Rattle.causality.specs.declared.Place.{Place}
 use Rattle.std.specs.Char.{digit_value}
 use Rattle.std.specs.Str.Parse.{AllDigits, digits_value, digits_value_after}
-use Rattle.std.specs.List.{AllByRecursion as All}
+use Rattle.std.specs.List.{AllByRecursion}
 use Rattle.std.proofs.lemmas.Fmt.{decimal-digits_value, digits_decimal, digits_value-decimal, decimal_nonempty, first_decimal, decimal_injective}
 use Rattle.std.proofs.lemmas.Int.Digits.{digits_value_more, digits_more}
 use Rattle.std.proofs.ByRecursion.{All-from_get_or}
@@ -17,11 +17,11 @@ own = numerals_by_value (AllDigits 10) tells_digits
 
 -- Values at the front.
 
-pub all_digits : (n : ℕ) → Small n → All Digit (decimal n)
+pub all_digits : (n : ℕ) → Small n → AllByRecursion Digit (decimal n)
 all_digits n small = All-from_get_or Digit (decimal n) 0 (λ i lt. digit_at (decimal n) i (digits_decimal own n (let s = small.1 in omega arith)) lt)
 
 -- two longest runs of one class in one list are one
-pub same_run : (C : ℕ → Type 0) (xs ys p q : List ℕ) → All C xs → All C ys → (C (get_or p 0 0) → ⊥) → (C (get_or q 0 0) → ⊥) → xs ++ p ≡ ys ++ q → (xs ≡ ys) × (p ≡ q)
+pub same_run : (C : ℕ → Type 0) (xs ys p q : List ℕ) → AllByRecursion C xs → AllByRecursion C ys → (C (get_or p 0 0) → ⊥) → (C (get_or q 0 0) → ⊥) → xs ++ p ≡ ys ++ q → (xs ≡ ys) × (p ≡ q)
 same_run C [] [] p q cx cy sp sq e = (refl, e)
 same_run C [] (y ∷ ys) p q cx cy sp sq e = absurd (sp (subst C (sym (ap (λ l. get_or l 0 0) e)) cy.0))
 same_run C (x ∷ xs) [] p q cx cy sp sq e = absurd (sq (subst C (ap (λ l. get_or l 0 0) e) cx.0))

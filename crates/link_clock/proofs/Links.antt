@@ -3,7 +3,7 @@ use Rattle.std.proofs.Common.{◌≡◌, ℕ, zero, suc, ◌+◌, ◌-◌, ◌<�
 use mathlib.Core.Bool.{Bool-set}
 use mathlib.Core.Logic.{∥∥₁_elim, ∥∥₁_prop}
 use Rattle.std.specs.Option.{option_to_list}
-use Rattle.std.specs.List.{AllByRecursion as All}
+use Rattle.std.specs.List.{AllByRecursion}
 use Rattle.std.proofs.ByRecursion.{All-append}
 use Rattle.std.proofs.lemmas.List.{get_or-set_same, get_or-set_other, get_or-replicate}
 use Rattle.std.proofs.lemmas.Bool.{cases_Bool, cases_eq, and_parts, and_from, lt-ltb, ltb-true}
@@ -32,13 +32,13 @@ earlier_up z k l h low =
     let (r, s) = and_parts (if_given (λ x. ltb x z) l.other) _ q in
     and_from _ _ (up l.own p) (and_from _ _ (up l.other r) (up l.prior s))
 
-pub earlier-all : (z : ℕ) (l : Link) → earlier z l ≡ true → All (λ x. x < z) (before l)
+pub earlier-all : (z : ℕ) (l : Link) → earlier z l ≡ true → AllByRecursion (λ x. x < z) (before l)
 earlier-all z l low =
     let (p, q) = and_parts (if_given (λ x. ltb x z) l.own) _ low in
     let (r, s) = and_parts (if_given (λ x. ltb x z) l.other) _ q in
     All-append _ (option_to_list l.own) _ (each l.own p) (All-append _ (option_to_list l.other) _ (each l.other r) (each l.prior s))
   where
-    each : (o : Option ℕ) → if_given (λ x. ltb x z) o ≡ true → All (λ x. x < z) (option_to_list o)
+    each : (o : Option ℕ) → if_given (λ x. ltb x z) o ≡ true → AllByRecursion (λ x. x < z) (option_to_list o)
     each None g = tt
     each (Some x) g = (ltb-true x z g, tt)
 
@@ -51,7 +51,7 @@ past-grown links z y k₀ (suc k) l h =
       | inr q ↦ past-tail (entry_of (get_or links k no_link)) (takes_of links k) z y (omega (arith, length_takes links k)) ∙ past-grown links z y k₀ k l (omega arith)
     ]
 
-in_some-grown : (links : List Link) (y z k : ℕ) → z ≤ k → (xs : List ℕ) → All (λ x. x < z) xs → in_some (past (takes_of links z)) xs y ≡ in_some (past (takes_of links k)) xs y
+in_some-grown : (links : List Link) (y z k : ℕ) → z ≤ k → (xs : List ℕ) → AllByRecursion (λ x. x < z) xs → in_some (past (takes_of links z)) xs y ≡ in_some (past (takes_of links k)) xs y
 in_some-grown links y z k h [] all = refl
 in_some-grown links y z k h (x ∷ xs) (l, all) = rw (past-grown links x y z k l h, in_some-grown links y z k h xs all)
 

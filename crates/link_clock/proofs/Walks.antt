@@ -1,7 +1,7 @@
 -- A walk back from an entry meets its past.
 use Rattle.std.proofs.Common.{◌≡◌, ℕ, zero, suc, ◌+◌, ◌<◌, ◌≤◌, Bool, true, false, cond, ◌&&◌, ◌||◌, ◌≢◌, List, [], ◌∷◌, length, get_or, set, replicate, sym, refl, ap, ◌∙◌, inl, inr, add-one, arith, length-set}
 use mathlib.Core.Bool.{or_assoc, or_comm, or-false}
-use Rattle.std.specs.List.{AllByRecursion as All}
+use Rattle.std.specs.List.{AllByRecursion}
 use Rattle.std.proofs.lemmas.List.{get_or-set_same, get_or-set_other, get_or-replicate, length-replicate}
 use Rattle.std.proofs.lemmas.Bool.{cases_Bool, cases_eq, ne_eqb}
 use Rattle.causality.specs.Newest.{tally}
@@ -48,7 +48,7 @@ module _ (p : ℕ → ℕ → Bool) (y : ℕ) where
         | inr q ↦ rw (get_or-set_other marks x k true false q, reached-set marks x k (omega arith) (omega arith)) (or_turn (get_or marks k false && p k y) (p x y) (reached p marks k y) ∙ or_assoc (p x y) _ _)
       ]
 
-  reached-marked : (k : ℕ) (xs : List ℕ) → All (λ x. x < k) xs → (marks : List Bool) → k ≤ length marks → reached p (marked marks xs) k y ≡ (in_some p xs y || reached p marks k y)
+  reached-marked : (k : ℕ) (xs : List ℕ) → AllByRecursion (λ x. x < k) xs → (marks : List Bool) → k ≤ length marks → reached p (marked marks xs) k y ≡ (in_some p xs y || reached p marks k y)
   reached-marked k [] all marks h = refl
   reached-marked k (x ∷ xs) (l, all) marks h =
       reached-marked k xs all (set marks x true) (omega (arith, length-set marks x true))

@@ -1,7 +1,7 @@
 -- A list of places is read place by place, in one way only.
 use Rattle.std.proofs.Common.{◌≡◌, ℕ, suc, ◌+◌, ◌<◌, ◌≤◌, List, [], ◌∷◌, ◌++◌, length, get_or, take, drop, set, sym, refl, ap, ◌∙◌, subst, append_assoc, append-nil, arith, length-append}
 use Rattle.causality.specs.declared.Place.{Place}
-use Rattle.std.specs.List.{AllByRecursion as All}
+use Rattle.std.specs.List.{AllByRecursion}
 use Rattle.std.proofs.ByRecursion.{All-push}
 use Rattle.std.proofs.lemmas.List.{length-set, length-take-le, take_more_set}
 use Rattle.line_parts.specs.Parts.{Digit, PlaceAt, SoundPlace, placed}
@@ -44,7 +44,7 @@ joins (p ∷ r ∷ done) q = append_assoc (placed p) (44 ∷ before (r ∷ done)
 -- ---- what the loop keeps: the places `done` are read, and `rest` is left
 
 pub record Sofar (s rest : List ℕ) (done : List Place) : Type 0 where
-  pub sound : All SoundPlace done
+  pub sound : AllByRecursion SoundPlace done
   pub is : s ≡ before done ++ rest
 
 pub start : (s : List ℕ) → Sofar s s []
@@ -101,7 +101,7 @@ pub record Left (done ps : List Place) (rest : List ℕ) : Type 0 where
   pub sound : SoundPlace one
   pub is : rest ≡ listed (one ∷ others)
 
-unlist : (done ps : List Place) (rest : List ℕ) → All SoundPlace done → All SoundPlace ps → 1 ≤ length ps → before done ++ rest ≡ listed ps → Left done ps rest
+unlist : (done ps : List Place) (rest : List ℕ) → AllByRecursion SoundPlace done → AllByRecursion SoundPlace ps → 1 ≤ length ps → before done ++ rest ≡ listed ps → Left done ps rest
 unlist done [] rest sd sp some e = absurd (omega arith)
 unlist [] (q ∷ qs) rest sd sp some e = record { one = q; others = qs; are = refl; sound = sp.0; is = e }
 unlist (p ∷ done) (q ∷ []) rest sd sp some e =
@@ -138,7 +138,7 @@ too_many {done = done} h big ps k =
 
 -- ---- a list is read in one way
 
-same-places : (ps qs : List Place) → 1 ≤ length ps → 1 ≤ length qs → All SoundPlace ps → All SoundPlace qs → listed ps ≡ listed qs → ps ≡ qs
+same-places : (ps qs : List Place) → 1 ≤ length ps → 1 ≤ length qs → AllByRecursion SoundPlace ps → AllByRecursion SoundPlace qs → listed ps ≡ listed qs → ps ≡ qs
 same-places [] qs m n s t e = absurd (omega arith)
 same-places (p ∷ ps) [] m n s t e = absurd (omega arith)
 same-places (p ∷ []) (q ∷ []) m n s t e =

@@ -5,7 +5,7 @@
 --   Lists bs ps      bs is the list of the places ps
 --   Stores bs n ps   bs is the list of the n places that stand first in the memory ps
 use Rattle.std.specs.Prelude.{◌≡◌, ℕ, ◌≤◌, List, [], ◌∷◌, ◌++◌, length, take}
-use Rattle.std.specs.List.{AllByRecursion as All}
+use Rattle.std.specs.List.{AllByRecursion}
 use Rattle.causality.specs.declared.Place.{Place}
 use Rattle.line_parts.specs.Parts.{SoundPlace, placed}
 
@@ -20,7 +20,7 @@ max_places = 512
 pub record SoundPlaces (ps : List Place) : Type 0 where
   pub some : 1 ≤ length ps
   pub few : length ps ≤ max_places
-  pub all : All SoundPlace ps
+  pub all : AllByRecursion SoundPlace ps
 
 pub record Lists (bs : List ℕ) (ps : List Place) : Type 0 where
   pub sound : SoundPlaces ps

@@ -1,6 +1,6 @@
 -- A text that is played up to a line, and one line more.
 use Rattle.std.proofs.Common.{◌≡◌, ℕ, ◌+◌, ◌*◌, ◌≤◌, List, [], ◌∷◌, ◌++◌, length, take, Option, sym, refl, ap, ◌∙◌, subst, append_assoc, append-nil, add-zero, arith, length-append}
-use Rattle.std.specs.List.{AllByRecursion as All}
+use Rattle.std.specs.List.{AllByRecursion}
 use Rattle.std.proofs.lemmas.List.{nil_from_length}
 use Rattle.answer_lines.specs.Output.{Wrote}
 use Rattle.answer_lines.proofs.Writes.{wrote_then, wrote_as}
@@ -55,7 +55,7 @@ pub record Playing (Pre Good : Type 0) (text : List ℕ) (n k : ℕ) (left : Lis
   pub done : List Line
   pub todo : List Line
   pub split : lawful.all.lines ≡ done ++ todo
-  pub sound : All Sound todo
+  pub sound : AllByRecursion Sound todo
   pub count : length done ≡ k
   pub left_is : left ≡ spelt todo
   pub room : at ≤ 32 * k

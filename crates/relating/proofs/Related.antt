@@ -1,6 +1,6 @@
 -- The walks answer each relation, and the answer is fixed by what is asked of it.
 use Rattle.std.proofs.Common.{◌≡◌, ℕ, suc, Bool, true, false, not, ◌⊎◌, List, [], ◌∷◌, ◌++◌, length, sym, refl, ap, ◌∙◌, ap₂, inl, inr}
-use Rattle.std.specs.List.{AllByRecursion as All}
+use Rattle.std.specs.List.{AllByRecursion}
 use Rattle.std.proofs.lemmas.Bool.Decides.{same_from_decides}
 use Rattle.relating.specs.Walks.{Ranked, WalksRelated, OneAnswer, is_every, compared}
 use Rattle.relating.proofs.Steps.{other_way, steps_ranked}
@@ -19,7 +19,7 @@ one_of_two false true = inr refl
 one_of_two false false = inl refl
 
 -- the first `stop` of a list stands at one place
-first_stop : (stop : Bool) (before before' after after' : List Bool) → All (λ b. b ≡ not stop) before → All (λ b. b ≡ not stop) before' →
+first_stop : (stop : Bool) (before before' after after' : List Bool) → AllByRecursion (λ b. b ≡ not stop) before → AllByRecursion (λ b. b ≡ not stop) before' →
     before ++ (stop ∷ after) ≡ before' ++ (stop ∷ after') → length before ≡ length before'
 first_stop stop [] [] after after' all all' e = refl
 first_stop stop [] (b ∷ bs) after after' all (h, _) e = absurd (other_way stop (cc))

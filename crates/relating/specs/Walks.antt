@@ -23,7 +23,7 @@
 --   Holds r vs x xs y ys    relation r, said of all pairs of members
 --   Related r vs n .. a     a is an answer of relation r: its verdict is the relation, its steps the rank of what decided it
 use Rattle.std.specs.Prelude.{◌≡◌, ℕ, zero, suc, ◌<◌, ◌≤◌, Bool, true, false, cond, not, ◌||◌, List, [], ◌∷◌, ◌++◌, length, Some, None, Decides, MatchBool, Option, ◌==◌, nat_le}
-use Rattle.std.specs.List.{AllByRecursion as All}
+use Rattle.std.specs.List.{AllByRecursion}
 use Rattle.causality.specs.declared.Event.{Event}
 use Rattle.causality.specs.Newest.{Any, Mem}
 use Rattle.causality.specs.Traces.{events_at, Orderly}
@@ -72,18 +72,18 @@ walk r vs n x xs y ys = cond (is_every r) (every_walk (compared r vs n x xs y ys
 
 abbrev pub Holds : ℕ → List Event → ℕ → List ℕ → ℕ → List ℕ → Type 0
 Holds r vs x xs y ys =
-    MatchBool (r == 1) (All (λ u. All (λ v. To vs u v) (y ∷ ys)) (x ∷ xs))
-    (MatchBool (r == 2) (All (λ u. Any (λ v. To vs u v) (y ∷ ys)) (x ∷ xs))
-    (MatchBool (r == 3) (Any (λ v. All (λ u. To vs u v) (x ∷ xs)) (y ∷ ys))
-    (MatchBool (r == 4) (Any (λ u. All (λ v. To vs u v) (y ∷ ys)) (x ∷ xs))
-    (MatchBool (r == 5) (All (λ v. Any (λ u. To vs u v) (x ∷ xs)) (y ∷ ys))
+    MatchBool (r == 1) (AllByRecursion (λ u. AllByRecursion (λ v. To vs u v) (y ∷ ys)) (x ∷ xs))
+    (MatchBool (r == 2) (AllByRecursion (λ u. Any (λ v. To vs u v) (y ∷ ys)) (x ∷ xs))
+    (MatchBool (r == 3) (Any (λ v. AllByRecursion (λ u. To vs u v) (x ∷ xs)) (y ∷ ys))
+    (MatchBool (r == 4) (Any (λ u. AllByRecursion (λ v. To vs u v) (y ∷ ys)) (x ∷ xs))
+    (MatchBool (r == 5) (AllByRecursion (λ v. Any (λ u. To vs u v) (x ∷ xs)) (y ∷ ys))
     (Any (λ u. Any (λ v. To vs u v) (y ∷ ys)) (x ∷ xs))))))
 
 -- ---- what the walks tell
 
 -- the members are numbers of events of the trace
 abbrev pub InRange : List Event → List ℕ → Type 0
-InRange vs xs = All (λ u. u < length vs) xs
+InRange vs xs = AllByRecursion (λ u. u < length vs) xs
 
 -- the verdict of a walk over all nodes of the trace is the relation
 abbrev pub WalksDecide : Type 0
@@ -98,9 +98,9 @@ pub record Ranked (stop : Bool) (bs : List Bool) (answer : Bool × ℕ) : Type 0
   pub at_most : answer.1 ≤ length bs
   pub at_least : 1 ≤ length bs → 1 ≤ answer.1
   -- if none came out so, all were made
-  pub unstopped : answer.0 ≡ not stop → All (λ b. b ≡ not stop) bs × (answer.1 ≡ length bs)
+  pub unstopped : answer.0 ≡ not stop → AllByRecursion (λ b. b ≡ not stop) bs × (answer.1 ≡ length bs)
   -- else the steps are the rank, from 1, of the first that did
-  pub stopped : answer.0 ≡ stop → (before : List Bool) × (after : List Bool) × (bs ≡ before ++ (stop ∷ after)) × All (λ b. b ≡ not stop) before × (answer.1 ≡ suc (length before))
+  pub stopped : answer.0 ≡ stop → (before : List Bool) × (after : List Bool) × (bs ≡ before ++ (stop ∷ after)) × AllByRecursion (λ b. b ≡ not stop) before × (answer.1 ≡ suc (length before))
 
 -- an "every" test stops at the first comparison that is false, a "some" test at the first that is true
 abbrev pub StepsRanked : Type 0

@@ -20,7 +20,7 @@ use Rattle.clock.proofs.Arrays.{length-listed, listed_like, node_bounds, node_up
 use Rattle.clock.proofs.Takes.{held_timeline, tally-stamp, next_past-is, latest-low}
 use Rattle.row_clock.specs.declared.parts.Row.{Row}
 use Rattle.row_clock.specs.declared.parts.Column.{Column}
-use Rattle.row_clock.specs.Laws.{reaches-past, entries-kept}
+use Rattle.row_clock.specs.Laws.{reaches_past, entries_kept}
 use Rattle.row_clock.specs.Rows.{no_row, no_column, cell, line_of, reaches, held_row, Keeps, Kept, latest_of, cell_of, next_count, Filed}
 
 -- ---- of any takes
@@ -108,15 +108,15 @@ module _ (len : ℕ) (rows : List Row) (columns columns' : List Column) (a : ℕ
       let rows' = set rows len row in
       let new = get_or-set_same rows len row no_row (omega (arith, ok.room)) in
       let past-new : (x : ℕ) → reaches rows' len x ≡ next_past (asked a b m) vs x = λ x. ∥∥₁_elim kept (Bool-set _ _) (λ (ts, k).
-      reaches-past (len + 1) rows' columns' (asked a b m ∷ ts) (keeps_more ts k) len x (omega arith)
+      reaches_past (len + 1) rows' columns' (asked a b m ∷ ts) (keeps_more ts k) len x (omega arith)
       ∙ ap (λ (e : ℕ). past (asked a b m ∷ ts) e x) (sym k.size) ∙ sym (next_past-is (asked a b m) ts x)
-      ∙ ap (λ (vs : List Held). next_past (asked a b m) vs x) (sym (entries-kept len rows columns ts k))) in
+      ∙ ap (λ (vs : List Held). next_past (asked a b m) vs x) (sym (entries_kept len rows columns ts k))) in
       let old : (e : ℕ) → e < len → held_row rows' e ≡ held_row rows e = λ e l.
       let ne : e ≢ len = omega arith in
       let same = get_or-set_other rows len e row no_row ne in
       let past-old : (x : ℕ) → reaches rows' e x ≡ reaches rows e x = λ x. ∥∥₁_elim kept (Bool-set _ _) (λ (ts, k).
-      reaches-past (len + 1) rows' columns' (asked a b m ∷ ts) (keeps_more ts k) e x (omega arith)
-      ∙ past-tail (asked a b m) ts e x (omega (arith, k.size)) ∙ sym (reaches-past len rows columns ts k e x l)) in
+      reaches_past (len + 1) rows' columns' (asked a b m ∷ ts) (keeps_more ts k) e x (omega arith)
+      ∙ past-tail (asked a b m) ts e x (omega (arith, k.size)) ∙ sym (reaches_past len rows columns ts k e x l)) in
       λ i. record { node = (same i).node; partner = (same i).partner; past = λ x. past-old x i } in
       rw add-one (ap₂ (λ (v : Held) (vs : List Held). v ∷ vs)
       (λ i. record { node = (ap (λ (r : Row). r.node) new ∙ node) i; partner = (ap (λ (r : Row). r.partner) new ∙ partner) i; past = λ x. past-new x i })
@@ -128,11 +128,11 @@ module _ (n len : ℕ) (rows : List Row) (columns : List Column) (small : n ≤ 
   pub cell-tally : (e i : ℕ) → true ≡ (ltb e len && is_node n i) → cell rows e i ≡ tally (within (listed (held_row rows) len) e) (held_at (listed (held_row rows) len) i)
   cell-tally e i h = ∥∥₁_elim kept (ℕ_set _ _) (λ (ts, k).
       let (p, q) = and_parts (ltb e len) (is_node n i) (sym h) in
-      k.stamped e i (ltb-true e len p) (node_up n i small q) ∙ rw (entries-kept len rows columns ts k) (sym (tally-stamp ts e i)))
+      k.stamped e i (ltb-true e len p) (node_up n i small q) ∙ rw (entries_kept len rows columns ts k) (sym (tally-stamp ts e i)))
 
   pub line_held : (i : ℕ) → is_node n i ≡ true → line_of columns i ≡ held_at (listed (held_row rows) len) i
   line_held i h = ∥∥₁_elim kept (is_set ℕ_set _ _) (λ (ts, k).
-      k.filed i (node_up n i small h) ∙ rw (entries-kept len rows columns ts k) (sym (held_timeline ts i)))
+      k.filed i (node_up n i small h) ∙ rw (entries_kept len rows columns ts k) (sym (held_timeline ts i)))
 
   pub latest_held : (o : Option ℕ) → if_given (is_node max_nodes) o ≡ true → if_given (λ x. ltb x len) (latest_of columns o) ≡ true
   latest_held o h = ∥∥₁_elim kept (Bool-set _ _) (λ (ts, k). latest-fits len rows columns ts k o h)

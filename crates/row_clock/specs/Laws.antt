@@ -18,8 +18,8 @@ use Rattle.row_clock.specs.declared.parts.Column.{Column}
 use Rattle.row_clock.specs.Rows.{no_row, cell, reaches, held_row, rows_mean, Keeps, Kept}
 
 -- an entry is the k-th of its node, where k is its own count there
-own-kth : (ts : List Entry) (x i : ℕ) → Mem x (timeline ts i) → at ts i (stamp ts x i) ≡ Some x
-own-kth ts x i m =
+own_kth : (ts : List Entry) (x i : ℕ) → Mem x (timeline ts i) → at ts i (stamp ts x i) ≡ Some x
+own_kth ts x i m =
     let c = timeline ts i in
     let (n, e) = mem-entry c x m in
     let it : at ts i (suc n) ≡ Some x = entry-kth c n ∙ e in
@@ -37,8 +37,8 @@ own-kth ts x i m =
     ]
 
 module _ (len : ℕ) (rows : List Row) (columns : List Column) (ts : List Entry) (k : Keeps len rows columns ts) where
-  pub reaches-past : (e x : ℕ) → e < len → reaches rows e x ≡ past ts e x
-  reaches-past e x l = same_from_decides _ _ (there, back) ((λ h. h), λ h. h)
+  pub reaches_past : (e x : ℕ) → e < len → reaches rows e x ≡ past ts e x
+  reaches_past e x l = same_from_decides _ _ (there, back) ((λ h. h), λ h. h)
     where
       i : ℕ
       i = (get_or rows x no_row).node
@@ -48,7 +48,7 @@ module _ (len : ℕ) (rows : List Row) (columns : List Column) (ts : List Entry)
           let node = (get_or rows x no_row).placed in
           let (_, is) = k.placed x (omega arith) in
           let stands = numbers_in (λ t. at_either t.node t.partner i) ts x _ is (or_left (eqb i i) _ (eq-eqb i i refl)) in
-          rw (k.stamped x i (omega arith) node, k.stamped e i l node) (stamps_tell ts e i (stamp ts x i) x (own-kth ts x i stands))
+          rw (k.stamped x i (omega arith) node, k.stamped e i l node) (stamps_tell ts e i (stamp ts x i) x (own_kth ts x i stands))
 
       there : reaches rows e x ≡ true → past ts e x ≡ true
       there h = let (p, q) = and_parts _ _ h in (tell (leb-true x e p)).1 (leb-true (cell rows x i) (cell rows e i) q)
@@ -56,14 +56,14 @@ module _ (len : ℕ) (rows : List Row) (columns : List Column) (ts : List Entry)
       back : past ts e x ≡ true → reaches rows e x ≡ true
       back h = let (low, _) = (pasts-lawful ts).no_higher e x h in and_from _ _ (le-leb x e low) (le-leb (cell rows x i) (cell rows e i) ((tell low).0 h))
 
-  pub entries-kept : listed (held_row rows) len ≡ entries_of ts
-  entries-kept =
+  pub entries_kept : listed (held_row rows) len ≡ entries_of ts
+  entries_kept =
       ap (listed (held_row rows)) (sym k.size)
-      ∙ entries_held ts (held_row rows) (λ e l. let (ps, is) = k.placed e (omega (arith, k.size)) in (ps, is, λ x. reaches-past e x (omega (arith, k.size))))
+      ∙ entries_held ts (held_row rows) (λ e l. let (ps, is) = k.placed e (omega (arith, k.size)) in (ps, is, λ x. reaches_past e x (omega (arith, k.size))))
 
 module _ (n len : ℕ) (rows : List Row) (columns : List Column) (small : n ≤ max_nodes) (kept : Kept len rows columns) where
   pub of_takes : OfTakes (rows_mean n len rows)
-  of_takes = ∥∥₁_elim kept ∥∥₁_prop (λ (ts, k). ∣ (ts, entries-kept len rows columns ts k) ∣₁)
+  of_takes = ∥∥₁_elim kept ∥∥₁_prop (λ (ts, k). ∣ (ts, entries_kept len rows columns ts k) ∣₁)
 
   pub rows_lawful : Laws (rows_mean n len rows)
   rows_lawful = takes_lawful _ of_takes

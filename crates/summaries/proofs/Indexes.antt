@@ -1,6 +1,6 @@
 -- Joined numbers, where 0 stands for no index.
 use Rattle.std.proofs.Common.{◌≡◌, ℕ, suc, ◌<◌, ◌≤◌, min, max, true, false, cond, eqb, List, [], ◌∷◌, Some, None, Option, sym, refl, ap, ◌∙◌, ap₂, inl, inr, arith}
-use Rattle.std.specs.List.{AllByRecursion as All}
+use Rattle.std.specs.List.{AllByRecursion}
 use Rattle.std.proofs.lemmas.Bool.{cases_Bool, eqb-true, eqb-false, ne_eqb, eq-eqb, cases_eq}
 use Rattle.causality.specs.Relations.{joined, merged, joined_if}
 use Rattle.gathering.specs.Gathering.{earliest}
@@ -40,10 +40,10 @@ present_greatest a b =
     ]
 
 module _ (f g : ℕ → ℕ → ℕ) (keeps : (a b : ℕ) → present (f a b) ≡ merged g (present a) (present b)) where
-  pub present_joined : (of : ℕ → ℕ) (index : ℕ → Option ℕ) (x : ℕ) (xs : List ℕ) → All (λ u. present (of u) ≡ index u) (x ∷ xs) → present (joined f of x xs) ≡ joined_if g index (x ∷ xs)
+  pub present_joined : (of : ℕ → ℕ) (index : ℕ → Option ℕ) (x : ℕ) (xs : List ℕ) → AllByRecursion (λ u. present (of u) ≡ index u) (x ∷ xs) → present (joined f of x xs) ≡ joined_if g index (x ∷ xs)
   present_joined of index x [] (h, _) = h ∙ sym (merged-none g (index x))
   present_joined of index x (u ∷ us) (h, hs) = keeps (of x) (joined f of u us) ∙ ap₂ (merged g) h (present_joined of index u us hs)
 
-pub joined_like : (f : ℕ → ℕ → ℕ) (g h : ℕ → ℕ) (x : ℕ) (xs : List ℕ) → All (λ u. g u ≡ h u) (x ∷ xs) → joined f g x xs ≡ joined f h x xs
+pub joined_like : (f : ℕ → ℕ → ℕ) (g h : ℕ → ℕ) (x : ℕ) (xs : List ℕ) → AllByRecursion (λ u. g u ≡ h u) (x ∷ xs) → joined f g x xs ≡ joined f h x xs
 joined_like f g h x [] (e, _) = e
 joined_like f g h x (u ∷ us) (e, es) = ap₂ f e (joined_like f g h u us es)

@@ -1,6 +1,6 @@
 -- The rows that are summed are those of the theory.
 use Rattle.std.proofs.Common.{◌≡◌, ℕ, zero, suc, ◌+◌, ◌-◌, ◌<◌, ◌≤◌, min, max, true, false, cond, ltb, List, [], ◌∷◌, map, length, get_or, Some, None, Option, sym, refl, ap, ◌∙◌, subst, ap₂, inl, inr, arith}
-use Rattle.std.specs.List.{AllByRecursion as All}
+use Rattle.std.specs.List.{AllByRecursion}
 use Rattle.std.proofs.lemmas.Bool.{cases_Bool, cond-true, and_parts, lt-ltb, leb-true, false≢true}
 use Rattle.causality.specs.declared.Event.{Event}
 use Rattle.causality.specs.Limits.{is_node}
@@ -23,7 +23,7 @@ use Rattle.summaries.proofs.Indexes.{present_suc, present_earliest, present_grea
 use Rattle.summaries.proofs.Columns.{long, column_short, event_kept, count-fore, count-aft, column-counted}
 
 -- every member has what each event of the trace has
-all_held : {P Q : ℕ → Type 0} → ((u : ℕ) → P u → Q u) → (xs : List ℕ) → All P xs → All Q xs
+all_held : {P Q : ℕ → Type 0} → ((u : ℕ) → P u → Q u) → (xs : List ℕ) → AllByRecursion P xs → AllByRecursion Q xs
 all_held g [] h = tt
 all_held g (x ∷ xs) (h, hs) = (g x h, all_held g xs hs)
 
@@ -35,7 +35,7 @@ at_row : (f : ℕ → ℕ) (n i : ℕ) → n ≤ 16 → is_node n i ≡ true →
 at_row f n zero few e = absurd (false≢true e)
 at_row f n (suc j) few e = get_or-row f 16 j (omega (arith, node-low n (suc j) e))
 
-module _ (vs : List Event) (n : ℕ) (μ ρ : Meaning) (es : List Event) (total : ℕ) (t : Traced vs n μ ρ es total) (x : ℕ) (xs : List ℕ) (held : All (λ u. u < length vs) (x ∷ xs)) (i : ℕ) (node : is_node n i ≡ true) where
+module _ (vs : List Event) (n : ℕ) (μ ρ : Meaning) (es : List Event) (total : ℕ) (t : Traced vs n μ ρ es total) (x : ℕ) (xs : List ℕ) (held : AllByRecursion (λ u. u < length vs) (x ∷ xs)) (i : ℕ) (node : is_node n i ≡ true) where
   module _ (f : ℕ → ℕ → ℕ) (associative : (a b c : ℕ) → f (f a b) c ≡ f a (f b c)) (ms : List ℕ) (members : ms ≡ x ∷ xs) (r : Row) where
     -- rows joined by f
     at_joined : (of : ℕ → Row) → ((u : ℕ) → length (of u).counts ≡ 16) → r ≡ or-zeros (joined_all (op f associative) (map of ms)) → at-node r i ≡ joined f (λ u. at-node (of u) i) x xs

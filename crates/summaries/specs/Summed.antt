@@ -4,7 +4,7 @@
 --                              the array es has its events, oldest first
 --   Summed ..                  in any trace that the clocks took, of which the members are events, o is the record of the members
 use Rattle.std.specs.Prelude.{◌≡◌, ℕ, ◌<◌, ◌≤◌, List, ◌∷◌, reverse, length, take}
-use Rattle.std.specs.List.{AllByRecursion as All}
+use Rattle.std.specs.List.{AllByRecursion}
 use Rattle.causality.specs.declared.Event.{Event}
 use Rattle.causality.specs.Traces.{forward, backward}
 use Rattle.clock.specs.Meaning.{Meaning}
@@ -22,4 +22,4 @@ pub record Traced (vs : List Event) (n : ℕ) (μ ρ : Meaning) (es : List Event
 
 abbrev pub Summed : Meaning → Meaning → List Event → ℕ → List ℕ → Operation → Type 0
 Summed μ ρ es total members o =
-    (vs : List Event) (n x : ℕ) (xs : List ℕ) → Traced vs n μ ρ es total → members ≡ x ∷ xs → All (λ u. u < length vs) (x ∷ xs) → Summary vs n x xs o
+    (vs : List Event) (n x : ℕ) (xs : List ℕ) → Traced vs n μ ρ es total → members ≡ x ∷ xs → AllByRecursion (λ u. u < length vs) (x ∷ xs) → Summary vs n x xs o
