@@ -1,5 +1,5 @@
 -- What the reverse clock takes at close is the trace from last to first, each send with its receive.
-use Rattle.std.proofs.Common.{◌≡◌, ℕ, suc, ◌+◌, ◌-◌, ◌<◌, ◌≤◌, Bool, true, false, cond, ◌||◌, eqb, ◌⊎◌, List, [], ◌∷◌, ◌++◌, reverse, length, get_or, take, drop, Some, None, Option, sym, refl, ap, ◌∙◌, subst, inl, inr, append_assoc, arith, length-append, drop-cons}
+use Rattle.std.proofs.Common.{◌≡◌, ℕ, ◌-◌, ◌<◌, ◌≤◌, Bool, false, ◌||◌, eqb, List, [], ◌∷◌, ◌++◌, reverse, length, Some, None, Option, sym, refl, ap, ◌∙◌, subst, inl, inr, append_assoc, arith, length-append}
 use mathlib.Core.List.{reverse_aux, reverse-reverse}
 use Rattle.std.specs.Option.{option_to_list}
 use Rattle.std.specs.List.{AllByRecursion}
@@ -8,14 +8,12 @@ use Rattle.std.proofs.lemmas.Bool.{cases_Bool, or_parts, or_from, eqb-true, eq-e
 use Rattle.causality.specs.declared.Event.{Event}
 use Rattle.causality.specs.Newest.{numbers, has, entry, tally}
 use Rattle.causality.specs.Entries.{is}
-use Rattle.causality.specs.Traces.{node_of, partner_of, sends, receives, both, into, entries, was_sent, Accepted}
-use Rattle.causality.proofs.Newest.{entry_head, entry_cases, numbers_turned, reverse_split, length-picked, tally-reverse}
+use Rattle.causality.specs.Traces.{node_of, partner_of, sends, receives, both, into, entries, Accepted}
+use Rattle.causality.proofs.Newest.{entry_cases, numbers_turned, reverse_split, length-picked, tally-reverse}
 use Rattle.clock.specs.Meaning.{Meaning, taken}
 use Rattle.clock.specs.Takes.{meaning}
-use Rattle.history.specs.History.{was_received}
 use Rattle.history.specs.Lawful.{Fits, Once}
 use Rattle.records.specs.declared.messages.Sent.{Sent}
-use Rattle.records.specs.Messages.{received}
 use Rattle.feeding.specs.Posted.{posted, receipt_of, from_last, receipt_if, follower, fed_through}
 use Rattle.feeding.proofs.Taking.{taken-entry, numbers_never}
 use Rattle.feeding.proofs.Posts.{is_some, unreceived, numbers_unsent, sends_only, posted_known}

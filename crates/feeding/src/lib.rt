@@ -1,4 +1,5 @@
 //! Feeding a clock the events of a trace from last to first.
+#![tactic(auto)]
 
 ghost use Rattle.std.specs.Prelude.{◌≡◌, ◌≤◌, length, take};
 ghost use Rattle.feeding.specs.Posted.{fed_through, follower, from_last};

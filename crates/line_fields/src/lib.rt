@@ -1,4 +1,5 @@
 //! What follows the key of a line of the job text: each function reads the rest of one kind of line.
+#![tactic(auto)]
 
 ghost use Rattle.std.specs.Prelude.{◌≡◌, ℕ, List, ◌++◌, codes, decimal, MatchOption, ◌≢◌, slice_index};
 ghost use Rattle.causality.specs.declared.Place.{Place};

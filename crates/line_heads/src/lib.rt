@@ -1,4 +1,5 @@
 //! The key that a line of the job text begins with.
+#![tactic(auto)]
 
 ghost use Rattle.line_heads.specs.Heads.{Splits};
 

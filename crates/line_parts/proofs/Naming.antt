@@ -1,10 +1,10 @@
 -- Names at the front of a list: there is at most one, and the loop over the letters finds it.
-use Rattle.std.proofs.Common.{◌≡◌, ℕ, ◌+◌, ◌-◌, ◌<◌, ◌≤◌, Bool, true, false, ◌&&◌, leb, List, [], ◌∷◌, ◌++◌, length, get_or, take, drop, sym, refl, ap, ◌∙◌, subst, add-zero, arith, take-append-drop}
+use Rattle.std.proofs.Common.{◌≡◌, ℕ, ◌-◌, ◌<◌, ◌≤◌, Bool, true, false, ◌&&◌, leb, List, [], ◌∷◌, ◌++◌, length, get_or, take, drop, sym, refl, ap, ◌∙◌, subst, add-zero, arith, take-append-drop}
 use Rattle.std.specs.List.{AllByRecursion}
 use Rattle.std.proofs.lemmas.List.{get_or-drop, get_or_past, length-take-le, take_rest}
 use Rattle.std.proofs.lemmas.Bool.{and_parts, both_ways, leb-true, le-leb}
 use Rattle.std.proofs.lemmas.Bool.Decides.{nat_tests}
-use Rattle.history.specs.History.{all_letters, is_letter, is_name}
+use Rattle.history.specs.History.{all_letters, is_letter}
 use Rattle.line_parts.specs.Parts.{Letter, Name, NameAt}
 use Rattle.line_parts.proofs.Reading.{at_end, at_space, same_run}
 

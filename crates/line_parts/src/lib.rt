@@ -1,4 +1,5 @@
 //! Readers of the parts of a line of the job text: each takes the bytes and gives a value and what follows it.
+#![tactic(auto)]
 
 ghost use Rattle.std.specs.Prelude.{◌≡◌, ℕ, List, ◌++◌, MatchOption, ◌≢◌};
 ghost use Rattle.causality.specs.declared.Place.{Place};

@@ -1,4 +1,5 @@
 //! Lists of places, as a line of the job text has them: `1.1,2.4,3.2`.
+#![tactic(auto)]
 
 ghost use Rattle.std.specs.Prelude.{◌≡◌, ℕ, List, length, MatchOption};
 ghost use Rattle.causality.specs.declared.Place.{Place};

@@ -1,8 +1,7 @@
-use Rattle.std.proofs.Common.{◌≡◌, ℕ, suc, ◌-◌, ◌<◌, ◌≤◌, List, ◌∷◌, length, get_or, take, drop, Option, sym, ap, ◌∙◌, arith, drop-cons}
+use Rattle.std.proofs.Common.{◌≡◌, ℕ, suc, ◌-◌, ◌<◌, ◌∷◌, length, get_or, take, drop, Option, sym, ap, ◌∙◌, arith, drop-cons}
 use Rattle.std.proofs.lemmas.List.{drop_all, get_or-take, length-take-le}
 use Rattle.causality.specs.declared.Event.{Event}
 use Rattle.causality.specs.Traces.{node_of, partner_of}
-use Rattle.clock.specs.Meaning.{Meaning, taken}
 use Rattle.records.specs.Messages.{sent_of}
 use Rattle.feeding.specs.Posted.{follower, fed_through}
 use Rattle.feeding.proofs.Backs.{taken-same}

@@ -1,4 +1,4 @@
-use Rattle.std.proofs.Common.{get_or, sym, rules}
+use Rattle.std.proofs.Common.{get_or, rules}
 use Rattle.std.proofs.ByRecursion.{All-more}
 use Rattle.line_parts.specs.Parts.{Letter}
 use Rattle.line_parts.proofs.Naming.{name_here, name_long, past_end, tested_not}
