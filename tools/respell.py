@@ -15,7 +15,7 @@ import sys
 HEAD = re.compile(r"^(\s*)(?:abbrev pub |unfoldable pub |pub |abbrev |unfoldable )?([^\s(){},;.:]+)((?: \{?\(?[^:=]*\)?\}?)?) : (.*)$")
 TYPE = re.compile(r"^\s*(?:pub )?(?:record|data) ([^\s(){},;.:]+)")
 TOKEN = re.compile(r"[^\s(){}\[\],;.:`\"]+")
-FACTS = set()
+FACTS, FIELDS = set(), set()
 STD = set("length take drop map append reverse get_or set sum has filter all replicate cond min max sub add nth mem".split())
 
 
@@ -40,16 +40,23 @@ def code(line):
 
 def definitions(p):
     """The names that a file defines, goals of the check left out."""
+    record = None
     for line in read(p).split("\n"):
         line = code(line)
+        depth = len(line) - len(line.lstrip())
+        if line.strip() and record is not None and depth <= record:
+            record = None
         m = TYPE.match(line)
         if m:
+            record = depth if "record" in line and line.rstrip().endswith("where") else None
             yield m[1]
             continue
         m = HEAD.match(line)
         if m and not re.match(r"(?:goal|given|need)\.", m[4]) and m[2] not in ("let", "λ", "use", "where"):
             if m[4].endswith("Type 0"):
                 FACTS.add(m[2])
+            if record is not None:
+                FIELDS.add(m[2])
             yield m[2]
 
 
@@ -75,7 +82,7 @@ def spelling(name, defined, lemma):
     if name.startswith("getD-"):
         name = "get_or-" + name[5:]
     parts = name.split("-")
-    for i in range(1, len(parts)):
+    for i in range(1, 1 if name in FIELDS else len(parts)):
         left, right = "_".join(parts[:i]), "_".join(parts[i:])
         if right in defined and (left in ("length", "get_or") or lemma and left in defined):
             return left + "-" + right

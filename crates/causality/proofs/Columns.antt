@@ -198,31 +198,31 @@ turned_place vs i n z e =
     (length (reverse vs) - 1 - z, omega (arith, length-reverse vs), entry-kth (events_at vs i) _ ∙ subst (λ m. entry (events_at vs i) m ≡ Some (length (reverse vs) - 1 - z)) k back)
 
 module _ (vs ws : List Event) (orderly : Orderly vs) (orderly' : Orderly ws) (same : EqualColumns vs ws) where
-  pasts-agree : (i k x x' j l y y' : ℕ) → PlaceOf vs i k x → PlaceOf ws i k x' → PlaceOf vs j l y → PlaceOf ws j l y' → past (forward vs) y x ≡ past (forward ws) y' x'
-  pasts-agree i k x x' j l y y' px px' py py' =
+  pasts_agree : (i k x x' j l y y' : ℕ) → PlaceOf vs i k x → PlaceOf ws i k x' → PlaceOf vs j l y → PlaceOf ws j l y' → past (forward vs) y x ≡ past (forward ws) y' x'
+  pasts_agree i k x x' j l y y' px px' py py' =
       same_from_decides {P = To vs x y} _ _
       (past_is_before vs orderly x y (place-low vs i k x px) (place-low vs j l y py))
       (Decides-like {P = To ws x' y'} _ (to_twin ws vs (λ n. sym (same n)) i k x' x j l y' y px' px py' py) (to_twin vs ws same i k x x' j l y y' px px' py py')
       (past_is_before ws orderly' x' y' (place-low ws i k x' px') (place-low ws j l y' py')))
 
-  futures-agree : (i k x x' j l y y' : ℕ) → PlaceOf vs i k x → PlaceOf ws i k x' → PlaceOf vs j l y → PlaceOf ws j l y' →
+  futures_agree : (i k x x' j l y y' : ℕ) → PlaceOf vs i k x → PlaceOf ws i k x' → PlaceOf vs j l y → PlaceOf ws j l y' →
       past (backward vs) (mirror vs x) (mirror vs y) ≡ past (backward ws) (mirror ws x') (mirror ws y')
-  futures-agree i k x x' j l y y' px px' py py' =
+  futures_agree i k x x' j l y y' px px' py py' =
       mirrored vs x y (place-low vs i k x px) (place-low vs j l y py)
-      ∙ pasts-agree i k x x' j l y y' px px' py py'
+      ∙ pasts_agree i k x x' j l y y' px px' py py'
       ∙ sym (mirrored ws x' y' (place-low ws i k x' px') (place-low ws j l y' py'))
 
   height_agrees : (i : ℕ) → length (events_at vs i) ≡ length (events_at ws i)
   height_agrees i = sym (column_height vs i) ∙ ap length (same i) ∙ column_height ws i
 
-  stamps-agree : (j l y y' : ℕ) → PlaceOf vs j l y → PlaceOf ws j l y' → (i : ℕ) → fore vs y i ≡ fore ws y' i
-  stamps-agree j l y y' py py' i =
+  stamps_agree : (j l y y' : ℕ) → PlaceOf vs j l y → PlaceOf ws j l y' → (i : ℕ) → fore vs y i ≡ fore ws y' i
+  stamps_agree j l y y' py py' i =
       rw (timeline-events from vs i, timeline-events from ws i)
       (tally_twin _ _ (events_at vs i) (events_at ws i) (height_agrees i)
-      (λ n x x' e e'. pasts-agree i (suc n) x x' j l y y' (entry-kth _ n ∙ e) (entry-kth _ n ∙ e') py py'))
+      (λ n x x' e e'. pasts_agree i (suc n) x x' j l y y' (entry-kth _ n ∙ e) (entry-kth _ n ∙ e') py py'))
 
-  reverse_stamps-agree : (j l y y' : ℕ) → PlaceOf vs j l y → PlaceOf ws j l y' → (i : ℕ) → aft vs y i ≡ aft ws y' i
-  reverse_stamps-agree j l y y' py py' i =
+  reverse_stamps_agree : (j l y y' : ℕ) → PlaceOf vs j l y → PlaceOf ws j l y' → (i : ℕ) → aft vs y i ≡ aft ws y' i
+  reverse_stamps_agree j l y y' py py' i =
       let long : (us : List Event) → length (events_at (reverse us) i) ≡ length (events_at us i) = λ us.
       length-picked (λ _ os. length os) (at-node i) (reverse us) ∙ tally-reverse (at-node i) us ∙ sym (length-picked (λ _ os. length os) (at-node i) us) in
       rw (timeline-events into (reverse vs) i, timeline-events into (reverse ws) i)
@@ -231,13 +231,13 @@ module _ (vs ws : List Event) (orderly : Orderly vs) (orderly' : Orderly ws) (sa
       let (x, mx, px) = turned_place vs i n z e in
       let (x', mx', px') = turned_place ws i n z' e' in
       ap (past (backward vs) (mirror vs y)) mx
-      ∙ futures-agree j l y y' i (suc (length (events_at vs i) - 1 - n)) x x' py py' px (rw (height_agrees i) px')
+      ∙ futures_agree j l y y' i (suc (length (events_at vs i) - 1 - n)) x x' py py' px (rw (height_agrees i) px')
       ∙ ap (past (backward ws) (mirror ws y')) (sym mx')))
 
 pub columns_decide : ColumnsDecide
 columns_decide vs ws orderly orderly' same i k x x' j l y y' px px' py py' = record {
-  pasts = pasts-agree vs ws orderly orderly' same i k x x' j l y y' px px' py py';
-  futures = futures-agree vs ws orderly orderly' same i k x x' j l y y' px px' py py';
-  stamps = stamps-agree vs ws orderly orderly' same j l y y' py py';
-  reverse_stamps = reverse_stamps-agree vs ws orderly orderly' same j l y y' py py';
+  pasts = pasts_agree vs ws orderly orderly' same i k x x' j l y y' px px' py py';
+  futures = futures_agree vs ws orderly orderly' same i k x x' j l y y' px px' py py';
+  stamps = stamps_agree vs ws orderly orderly' same j l y y' py py';
+  reverse_stamps = reverse_stamps_agree vs ws orderly orderly' same j l y y' py py';
 }

@@ -42,11 +42,11 @@ module _ (p : ℕ → Bool) where
         ])
       ]
 
-  pub closed-mem : (c : List ℕ) → Descending c → ((x y : ℕ) → p x ≡ true → Mem x c → Mem y c → y < x → p y ≡ true) → Closed p c
-  closed-mem [] d cut = tt
-  closed-mem (z ∷ zs) (top, d) cut = (
+  pub closed_mem : (c : List ℕ) → Descending c → ((x y : ℕ) → p x ≡ true → Mem x c → Mem y c → y < x → p y ≡ true) → Closed p c
+  closed_mem [] d cut = tt
+  closed_mem (z ∷ zs) (top, d) cut = (
     (λ h. all-mem (λ x. p x ≡ true) zs (λ x m. cut z x h (inl refl) (inr m) (all-has zs top x m))),
-    closed-mem zs d (λ x y h m n. cut x y h (inr m) (inr n)),
+    closed_mem zs d (λ x y h m n. cut x y h (inr m) (inr n)),
   )
     where
       all-has : (zs : List ℕ) → AllByRecursion (λ x. x < z) zs → (x : ℕ) → Mem x zs → x < z
@@ -58,8 +58,8 @@ module _ (ts : List Entry) where
   line_descends : (i : ℕ) → Descending (timeline ts i)
   line_descends i = numbers_descend (λ t. at_either t.node t.partner i) ts
 
-  cut-closed : (within : ℕ → Bool) → Cut ts within → (i : ℕ) → Closed within (timeline ts i)
-  cut-closed within cut i = closed-mem within (timeline ts i) (line_descends i) (λ x y h m n l. cut x y i h m n l)
+  cut_closed : (within : ℕ → Bool) → Cut ts within → (i : ℕ) → Closed within (timeline ts i)
+  cut_closed within cut i = closed_mem within (timeline ts i) (line_descends i) (λ x y h m n l. cut x y i h m n l)
 
   pub past-cut : (e : ℕ) → Cut ts (past ts e)
   past-cut e x y i h m n l = (pasts-lawful ts).earliest e x y i h m n l
@@ -67,7 +67,7 @@ module _ (ts : List Entry) where
 pub counts_tell : CountsTell
 counts_tell ts within cut i k x e =
     let (pos, f) = kth-entry (timeline ts i) k x e in
-    let tell = tally_tells within (timeline ts i) (cut-closed ts within cut i) (k - 1) x f in
+    let tell = tally_tells within (timeline ts i) (cut_closed ts within cut i) (k - 1) x f in
     ((λ h. omega (arith, tell.0 h)), λ h. tell.1 (omega arith))
 
 pub stamps_tell : StampsTell
@@ -106,18 +106,18 @@ module _ (p q : ℕ → Bool) where
         ]
       ]
 
-none-closed : (c : List ℕ) → Closed (λ x. false) c × (tally (λ (x : ℕ). false) c ≡ 0)
-none-closed [] = (tt, refl)
-none-closed (z ∷ zs) = let (d, n) = none-closed zs in (((λ h. absurd (false≢true h)), d), n)
+none_closed : (c : List ℕ) → Closed (λ x. false) c × (tally (λ (x : ℕ). false) c ≡ 0)
+none_closed [] = (tt, refl)
+none_closed (z ∷ zs) = let (d, n) = none_closed zs in (((λ h. absurd (false≢true h)), d), n)
 
 -- the union of some pasts counts the greatest of their counts
 some-past : (ts : List Entry) (i : ℕ) (es : List ℕ) →
     Closed (in_some (past ts) es) (timeline ts i) × (tally (in_some (past ts) es) (timeline ts i) ≡ greatest (λ e. stamp ts e i) es)
-some-past ts i [] = none-closed (timeline ts i)
+some-past ts i [] = none_closed (timeline ts i)
 some-past ts i (e ∷ es) =
     let c = timeline ts i in
     let (ds, n) = some-past ts i es in
-    let d = cut-closed ts (past ts e) (past-cut ts e) i in
+    let d = cut_closed ts (past ts e) (past-cut ts e) i in
     (closed_or (past ts e) (in_some (past ts) es) c d ds, tally_or (past ts e) (in_some (past ts) es) c d ds ∙ ap (λ m. max (stamp ts e i) m) n)
 
 -- ---- one more entry

@@ -7,7 +7,7 @@
 --   numbers p xs    the numbers of the elements that pass p
 --   tally p xs      how many elements pass p
 --   has p xs        some element passes p
---   Any P xs        P holds of some element (All, of each, is the library's)
+--   Any P xs        P holds of some element (of each is the library's, as AllByRecursion)
 --   Mem x xs        x is an element
 use Rattle.std.specs.Prelude.{◌≡◌, ℕ, suc, ◌-◌, Bool, false, cond, ◌||◌, ◌⊎◌, List, [], ◌∷◌, length, Some, None, Option, ◌==◌}
 

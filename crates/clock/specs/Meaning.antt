@@ -72,7 +72,7 @@ if_given p (Some i) = p i
 
 -- n nodes and len entries accept an entry at a and b that follows m
 abbrev pub admits : ℕ → ℕ → ℕ → Option ℕ → Option ℕ → Bool
-admits n len a b m = nat_lt len max_entries && (is_node n a && (if_given (is_node n) b && (not (is b a) && if_given (λ e. ltb e len) m)))
+admits n len a b m = nat_lt len max_entries && (is_node n a && (if_given (is_node n) b && (not (is b a) && if_given (λ e. nat_lt e len) m)))
 
 abbrev pub accepts : Meaning → ℕ → Option ℕ → Option ℕ → Bool
 accepts s a b m = admits s.nodes (length s.entries) a b m

@@ -85,7 +85,7 @@ fn is_partner(nodes: u16, a: u16, b: Option<u16>) -> bool
 }
 
 fn is_held(len: u16, m: Option<u16>) -> bool
-    ensures { result ≡ if_given (λ e. ltb e len) m }
+    ensures { result ≡ if_given (λ e. nat_lt e len) m }
 {
     match m {
         None => true,

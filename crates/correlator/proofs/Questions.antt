@@ -180,8 +180,8 @@ module _ {X Y : Type 0} {F : Ghosts X} {R : Ghosts Y} (f : X → Meaning) (r : Y
       ∙ sym (cond-false _ _ _ (ne_eqb d 1 not-one))
 
 -- a reverse timestamp is given only of a closed trace
-pub reverse-closed : (h : History) (p : Place) (d len : ℕ) → refusal h (Call.stamp p d len) ≡ None → (d ≡ 1 → ⊥) → is_closed h.stage ≡ true
-reverse-closed h p d len free not-one =
+pub reverse_closed : (h : History) (p : Place) (d len : ℕ) → refusal h (Call.stamp p d len) ≡ None → (d ≡ 1 → ⊥) → is_closed h.stage ≡ true
+reverse_closed h p d len free not-one =
     let (idle, (selector, (waits, _))) = passed (refusals h (Call.stamp p d len)) free in
     let two : eqb d 2 ≡ true = elim (or_cases (eqb d 1) (eqb d 2) (not-false _ selector)) [ inl e ↦ absurd (not-one (eqb-true d 1 e)) | inr e ↦ e ] in
     ended h.stage idle (elim (and_cases (eqb d 2) (is_open h.stage) waits) [ inl e ↦ absurd (both_ways (eqb d 2) e two) | inr e ↦ e ])

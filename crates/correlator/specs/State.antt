@@ -57,17 +57,17 @@ local_tests c a = in_trace (history c) (is_node c.nodes a) ((nat_le max_events c
 
 abbrev pub meet_tests : {X Y : Type 0} {F : Ghosts X} {R : Ghosts Y} → Correlator X Y F R → ℕ → ℕ → List (Bool × Refusal)
 meet_tests c a b =
-    in_trace (history c) (is_node c.nodes a && is_node c.nodes b) (((a == b), Refusal.SameNode) ∷ (nat_le max_events c.len, Refusal.Full) ∷ [])
+    in_trace (history c) (is_node c.nodes a && is_node c.nodes b) ((a == b, Refusal.SameNode) ∷ (nat_le max_events c.len, Refusal.Full) ∷ [])
 
 abbrev pub send_tests : {X Y : Type 0} {F : Ghosts X} {R : Ghosts Y} → Correlator X Y F R → ℕ → ℕ → List (Bool × Refusal)
 send_tests c a m =
     in_trace (history c) (is_node c.nodes a)
-    (((m == 0), Refusal.NoMessage) ∷ (not (is_none (sent_of c.sent m)), Refusal.SentBefore) ∷ (nat_le max_events c.len, Refusal.Full) ∷ [])
+    ((m == 0, Refusal.NoMessage) ∷ (not (is_none (sent_of c.sent m)), Refusal.SentBefore) ∷ (nat_le max_events c.len, Refusal.Full) ∷ [])
 
 abbrev pub receive_tests : {X Y : Type 0} {F : Ghosts X} {R : Ghosts Y} → Correlator X Y F R → ℕ → ℕ → List (Bool × Refusal)
 receive_tests c a m =
     in_trace (history c) (is_node c.nodes a)
-    (((m == 0), Refusal.NoMessage) ∷ (is_none (sent_of c.sent m), Refusal.NotSent) ∷ (is_received (sent_of c.sent m), Refusal.ReceivedBefore)
+    ((m == 0, Refusal.NoMessage) ∷ (is_none (sent_of c.sent m), Refusal.NotSent) ∷ (is_received (sent_of c.sent m), Refusal.ReceivedBefore)
     ∷ (is_by a (sent_of c.sent m), Refusal.SameNode) ∷ (nat_le max_events c.len, Refusal.Full) ∷ [])
 
 -- ---- questions, as the correlator sees them

@@ -113,8 +113,8 @@ module _ (vs : List Event) (accepted : Accepted vs) (once : Once vs) (held : ℕ
         ap (λ (μ : Meaning). taken μ (node_of v) (partner_of v) (follower held (length vs) v)) (fed-behind (front ++ (v ∷ [])) rest next fits)
         ∙ taken-entry n into v rest (follower held (length vs) v) here low (followers front v rest split (sends v) refl)
 
-    pub fed-whole : AllByRecursion (Fits n) (reverse vs) → fed_through (meaning n []) (follower held (length vs)) (reverse vs) ≡ meaning n (entries into (reverse vs))
-    fed-whole fits = fed-behind [] (reverse vs) refl fits
+    pub fed_whole : AllByRecursion (Fits n) (reverse vs) → fed_through (meaning n []) (follower held (length vs)) (reverse vs) ≡ meaning n (entries into (reverse vs))
+    fed_whole fits = fed-behind [] (reverse vs) refl fits
 
 all_turned : {X : Type 0} (P : X → Type 0) (xs ys : List X) → AllByRecursion P xs → AllByRecursion P ys → AllByRecursion P (reverse_aux xs ys)
 all_turned P [] ys h k = k

@@ -31,9 +31,9 @@ pub data Call : Type 0 where
   -- a relation (1 to 6) and two names
   relate : ℕ → List ℕ → List ℕ → Call
 
--- the refusals of an event call at nodes that `nodes-fit` tests, before its own
+-- the refusals of an event call at nodes that `nodes_fit` tests, before its own
 abbrev pub in_trace : History → Bool → List (Bool × Refusal) → List (Bool × Refusal)
-in_trace h nodes-fit own = (is_idle h.stage, Refusal.Idle) ∷ (is_closed h.stage, Refusal.Closed) ∷ (not nodes-fit, Refusal.NoNode) ∷ own
+in_trace h nodes_fit own = (is_idle h.stage, Refusal.Idle) ∷ (is_closed h.stage, Refusal.Closed) ∷ (not nodes_fit, Refusal.NoNode) ∷ own
 
 -- the refusals of a call that waits for close, before its own
 abbrev pub when_closed : History → List (Bool × Refusal) → List (Bool × Refusal)
@@ -44,13 +44,13 @@ refusals h (Call.start n) = (not (is_node max_nodes n), Refusal.NodeCount) ∷ [
 refusals h (Call.local a) = in_trace h (is_node h.nodes a) ((is_full h.events, Refusal.Full) ∷ [])
 refusals h (Call.send a m) =
     in_trace h (is_node h.nodes a)
-    (((m == 0), Refusal.NoMessage) ∷ (was_sent h.events m, Refusal.SentBefore) ∷ (is_full h.events, Refusal.Full) ∷ [])
+    ((m == 0, Refusal.NoMessage) ∷ (was_sent h.events m, Refusal.SentBefore) ∷ (is_full h.events, Refusal.Full) ∷ [])
 refusals h (Call.receive a m) =
     in_trace h (is_node h.nodes a)
-    (((m == 0), Refusal.NoMessage) ∷ (not (was_sent h.events m), Refusal.NotSent) ∷ (was_received h.events m, Refusal.ReceivedBefore)
+    ((m == 0, Refusal.NoMessage) ∷ (not (was_sent h.events m), Refusal.NotSent) ∷ (was_received h.events m, Refusal.ReceivedBefore)
     ∷ (was_sent_by h.events a m, Refusal.SameNode) ∷ (is_full h.events, Refusal.Full) ∷ [])
 refusals h (Call.meet a b) =
-    in_trace h (is_node h.nodes a && is_node h.nodes b) (((a == b), Refusal.SameNode) ∷ (is_full h.events, Refusal.Full) ∷ [])
+    in_trace h (is_node h.nodes a && is_node h.nodes b) ((a == b, Refusal.SameNode) ∷ (is_full h.events, Refusal.Full) ∷ [])
 refusals h Call.close = (is_idle h.stage, Refusal.Idle) ∷ (is_closed h.stage, Refusal.Closed) ∷ []
 refusals h (Call.gather name places) =
     when_closed h

@@ -41,14 +41,14 @@ pub record Next (ls : List Line) (line rest : List ℕ) : Type 0 where
   pub more : List Line
   pub are : ls ≡ one ∷ more
   pub sound : AllByRecursion Sound (one ∷ more)
-  pub line-is : line ≡ written one
-  pub rest-is : rest ≡ spelt more
+  pub line_is : line ≡ written one
+  pub rest_is : rest ≡ spelt more
 
 pub next-line : {s line rest : List ℕ} (ls : List Line) → AllByRecursion Sound ls → s ≡ spelt ls → Cut s line rest → Next ls line rest
 next-line {line = line} {rest = rest} [] sound e cut = absurd (no_cut [] line rest tt (sym e ∙ cut.is))
 next-line {line = line} {rest = rest} (l ∷ ls) sound e cut =
     let same = same-cut line (written l) rest (spelt ls) cut.clear (clear-written l sound.0) (sym cut.is ∙ e) in
-    record { one = l; more = ls; are = refl; sound = sound; line-is = same.0; rest-is = same.1 }
+    record { one = l; more = ls; are = refl; sound = sound; line_is = same.0; rest_is = same.1 }
 
 pub no_next : {s rest : List ℕ} (ls : List Line) → s ≡ spelt ls → Uncut s rest → ls ≡ []
 no_next [] e end = refl

@@ -60,10 +60,10 @@ pub record Linked (links : List Link) (len : ℕ) : Type 0 where
   pub low : (z : ℕ) → z < len → earlier z (get_or links z no_link) ≡ true
   pub step : (z y : ℕ) → z < len → past (takes_of links len) z y ≡ (eqb y z || in_some (past (takes_of links len)) (before (get_or links z no_link)) y)
 
-pub linked : (len : ℕ) (links : List Link) (latest-at : List (Option ℕ)) → Kept len links latest-at → Linked links len
-linked len links latest-at kept = record { low = λ z l. ∥∥₁_elim kept (Bool-set _ _) (λ k. k.low z l); step = λ z y l. ∥∥₁_elim kept (Bool-set _ _) (λ k. step k z y l) }
+pub linked : (len : ℕ) (links : List Link) (latest_at : List (Option ℕ)) → Kept len links latest_at → Linked links len
+linked len links latest_at kept = record { low = λ z l. ∥∥₁_elim kept (Bool-set _ _) (λ k. k.low z l); step = λ z y l. ∥∥₁_elim kept (Bool-set _ _) (λ k. step k z y l) }
   where
-    step : Keeps len links latest-at → (z y : ℕ) → z < len → past (takes_of links len) z y ≡ (eqb y z || in_some (past (takes_of links len)) (before (get_or links z no_link)) y)
+    step : Keeps len links latest_at → (z y : ℕ) → z < len → past (takes_of links len) z y ≡ (eqb y z || in_some (past (takes_of links len)) (before (get_or links z no_link)) y)
     step k z y l =
         let link = get_or links z no_link in
         let size = length_takes links z in
@@ -74,8 +74,8 @@ linked len links latest-at kept = record { low = λ z l. ∥∥₁_elim kept (Bo
 
 -- ---- one more entry
 
-module _ (len : ℕ) (links : List Link) (latest-at latest-at' : List (Option ℕ)) (a : ℕ) (b m own other : Option ℕ) (tall : length links ≡ max_entries) (ok : Admitted len a b m)
-    (own_is : own ≡ latest_of latest-at (Some a)) (other-is : other ≡ latest_of latest-at b) (noted : Noted latest-at a b len latest-at') where
+module _ (len : ℕ) (links : List Link) (latest_at latest_at' : List (Option ℕ)) (a : ℕ) (b m own other : Option ℕ) (tall : length links ≡ max_entries) (ok : Admitted len a b m)
+    (own_is : own ≡ latest_of latest_at (Some a)) (other_is : other ≡ latest_of latest_at b) (noted : Noted latest_at a b len latest_at') where
   abbrev new : Link
   new = record { node = a; partner = b; own = own; other = other; prior = m }
 
@@ -85,7 +85,7 @@ module _ (len : ℕ) (links : List Link) (latest-at latest-at' : List (Option �
   takes_same : (k : ℕ) → k ≤ len → takes_of (set links len new) k ≡ takes_of links k
   takes_same k l = listed_like _ _ k (λ e h. let ne : e ≢ len = omega arith in ap entry_of (get_or-set_other links len e new no_link ne))
 
-  keeps_more : Keeps len links latest-at → Keeps (len + 1) (set links len new) latest-at'
+  keeps_more : Keeps len links latest_at → Keeps (len + 1) (set links len new) latest_at'
   keeps_more k =
       let here : get_or (set links len new) len no_link ≡ new = get_or-set_same links len new no_link (omega (arith, ok.room)) in
       let old : (e : ℕ) → e < len → get_or (set links len new) e no_link ≡ get_or links e no_link =
@@ -93,25 +93,25 @@ module _ (len : ℕ) (links : List Link) (latest-at latest-at' : List (Option �
       record {
         right = below_more (λ e. before (get_or (set links len new) e no_link) ≡ predecessors (entry_of (get_or (set links len new) e no_link)) (takes_of (set links len new) e)) len
             (λ e l. rw (old e l, takes_same e (omega arith)) (k.right e l))
-            (rw here (ap₂ (λ (o p : Option ℕ). option_to_list o ++ (option_to_list p ++ option_to_list m)) (own_is ∙ last_of k (Some a) ok.node) (other-is ∙ last_of k b ok.partner)
+            (rw here (ap₂ (λ (o p : Option ℕ). option_to_list o ++ (option_to_list p ++ option_to_list m)) (own_is ∙ last_of k (Some a) ok.node) (other_is ∙ last_of k b ok.partner)
             ∙ ap (predecessors (asked a b m)) (sym (takes_same len (omega arith)))));
         low = below_more (λ e. earlier e (get_or (set links len new) e no_link) ≡ true) len
             (λ e l. rw (old e l) (k.low e l))
-            (rw here (and_from _ _ (held k (Some a) own ok.node own_is) (and_from _ _ (held k b other ok.partner other-is) ok.held)));
+            (rw here (and_from _ _ (held k (Some a) own ok.node own_is) (and_from _ _ (held k b other ok.partner other_is) ok.held)));
         last = λ i h. noted i h ∙ ap (cond (at_either a b i) (Some len)) (k.last i h) ∙ newest-more i ∙ ap (λ (ts : List Entry). latest ts (Some i)) (sym takes_more);
       }
     where
-      last_of : Keeps len links latest-at → (o : Option ℕ) → if_given (is_node max_nodes) o ≡ true → latest_of latest-at o ≡ latest (takes_of links len) o
+      last_of : Keeps len links latest_at → (o : Option ℕ) → if_given (is_node max_nodes) o ≡ true → latest_of latest_at o ≡ latest (takes_of links len) o
       last_of k None h = refl
       last_of k (Some i) h = k.last i h
 
-      held : Keeps len links latest-at → (o x : Option ℕ) → if_given (is_node max_nodes) o ≡ true → x ≡ latest_of latest-at o → if_given (λ y. ltb y len) x ≡ true
+      held : Keeps len links latest_at → (o x : Option ℕ) → if_given (is_node max_nodes) o ≡ true → x ≡ latest_of latest_at o → if_given (λ y. ltb y len) x ≡ true
       held k o x h e = rw (e ∙ last_of k o h) (rw (length_takes links len) at (latest-low (takes_of links len) o))
 
       newest-more : (i : ℕ) → cond (at_either a b i) (Some len) (latest (takes_of links len) (Some i)) ≡ latest (asked a b m ∷ takes_of links len) (Some i)
       newest-more i = elim (cases_Bool (at_either a b i)) [ inl s ↦ rw (s, length_takes links len) | inr s ↦ rw s ]
 
-  pub kept_more : Kept len links latest-at → Kept (len + 1) (set links len new) latest-at'
+  pub kept_more : Kept len links latest_at → Kept (len + 1) (set links len new) latest_at'
   kept_more kept = ∥∥₁_elim kept ∥∥₁_prop (λ k. ∣ keeps_more k ∣₁)
 
 -- ---- no entries

@@ -43,26 +43,26 @@ earlier k l = if_given (λ x. nat_lt x k) l.own && (if_given (λ x. nat_lt x k) 
 
 -- ---- the predecessors of the entries taken
 
-pub record Keeps (len : ℕ) (links : List Link) (latest-at : List (Option ℕ)) : Type 0 where
+pub record Keeps (len : ℕ) (links : List Link) (latest_at : List (Option ℕ)) : Type 0 where
   -- each link has the predecessors of its entry, all earlier than it
   pub right : (e : ℕ) → e < len → before (slice_index_or links e no_link) ≡ predecessors (entry_of (slice_index_or links e no_link)) (takes_of links e)
   pub low : (e : ℕ) → e < len → earlier e (slice_index_or links e no_link) ≡ true
   -- each node has its latest entry
-  pub last : (i : ℕ) → is_node max_nodes i ≡ true → slice_index_or latest-at (i - 1) None ≡ latest (takes_of links len) (Some i)
+  pub last : (i : ℕ) → is_node max_nodes i ≡ true → slice_index_or latest_at (i - 1) None ≡ latest (takes_of links len) (Some i)
 
 abbrev pub Kept : ℕ → List Link → List (Option ℕ) → Type 0
-Kept len links latest-at = ∥ (Keeps len links latest-at) ∥₁
+Kept len links latest_at = ∥ (Keeps len links latest_at) ∥₁
 
 -- ---- the steps of a take
 
 abbrev pub latest_of : List (Option ℕ) → Option ℕ → Option ℕ
-latest_of latest-at None = None
-latest_of latest-at (Some i) = slice_index_or latest-at (i - 1) None
+latest_of latest_at None = None
+latest_of latest_at (Some i) = slice_index_or latest_at (i - 1) None
 
 -- entry e is the latest at a and b
 abbrev pub Noted : List (Option ℕ) → ℕ → Option ℕ → ℕ → List (Option ℕ) → Type 0
-Noted latest-at a b e latest-at' =
-    (i : ℕ) → is_node max_nodes i ≡ true → slice_index_or latest-at' (i - 1) None ≡ cond (at_either a b i) (Some e) (slice_index_or latest-at (i - 1) None)
+Noted latest_at a b e latest_at' =
+    (i : ℕ) → is_node max_nodes i ≡ true → slice_index_or latest_at' (i - 1) None ≡ cond (at_either a b i) (Some e) (slice_index_or latest_at (i - 1) None)
 
 -- ---- the walk
 

@@ -3,8 +3,7 @@
 
 ghost use Rattle.std.specs.Prelude.{◌≡◌, ◌<◌, ◌≤◌, true, length, nat_lt, slice_index_or};
 ghost use Rattle.std.specs.Option.{option_to_list};
-ghost use Rattle.causality.specs.Entries.{stamp};
-ghost use Rattle.causality.specs.Entries.{at as timeline-at};
+ghost use Rattle.causality.specs.Entries.{at as timeline_at, stamp};
 ghost use Rattle.causality.specs.Limits.{max_nodes, is_node};
 ghost use Rattle.clock.specs.Meaning.{max_entries, blank, if_given};
 ghost use Rattle.link_clock.specs.Links.{no_link, before, earlier, takes_of, links_mean, Kept, latest_of, Noted, marked, visited, hits};
@@ -129,7 +128,7 @@ impl LinkClock {
     /// The k-th entry at node i: one pass from the oldest up.
     fn find(&self, i: u16, k: u16) -> Option<u16>
         requires { 1 ≤ k }
-        ensures { result ≡ timeline-at (takes_of self.now.links self.now.len) i k }
+        ensures { result ≡ timeline_at (takes_of self.now.links self.now.len) i k }
     {
         let mut height = 0;
         for x in 0..self.len {

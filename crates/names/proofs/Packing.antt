@@ -57,8 +57,8 @@ value-next bs n i =
       | inr h ↦ rw (get_or_past bs i 0 h, drop_all i bs h, drop_all (i + 1) bs (omega arith), value_none n) (omega arith)
     ]
 
-pub places-number : (bs places : List ℕ) → ((k : ℕ) → get_or places k 0 ≡ get_or bs k 0) →
+pub places_number : (bs places : List ℕ) → ((k : ℕ) → get_or places k 0 ≡ get_or bs k 0) →
     get_or places 0 0 * 72057594037927936 + get_or places 1 0 * 281474976710656 + get_or places 2 0 * 1099511627776 + get_or places 3 0 * 4294967296 + get_or places 4 0 * 16777216 + get_or places 5 0 * 65536 + get_or places 6 0 * 256 + get_or places 7 0 ≡ packed bs
-places-number bs places same =
+places_number bs places same =
     rw (same 0, same 1, same 2, same 3, same 4, same 5, same 6, same 7) (
     omega (arith, value-next bs 7 0, value-next bs 6 1, value-next bs 5 2, value-next bs 4 3, value-next bs 3 4, value-next bs 2 5, value-next bs 1 6, value-next bs 0 7))

@@ -3,9 +3,9 @@
 --   value n bs         the number that the first n places of bs write to the base 256, with a zero at each place past the end
 --   packed name        the number of a name: eight places
 --   comes_before x y   x is a proper front of y, or the first byte that differs is smaller in x
---   PackingOrders     names are in order just where their numbers are
---   PackingKeeps      different names have different numbers
---   PackingTells      names are the same just where their numbers are
+--   PackingOrders      names are in order just where their numbers are
+--   PackingKeeps       different names have different numbers
+--   PackingTells       names are the same just where their numbers are
 use Rattle.std.specs.Prelude.{◌≡◌, ℕ, zero, suc, ◌+◌, ◌*◌, ◌^◌, Bool, true, false, ◌&&◌, ◌||◌, List, [], ◌∷◌, ◌==◌, nat_lt}
 use Rattle.history.specs.History.{is_name, same_name}
 

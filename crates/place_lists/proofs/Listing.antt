@@ -138,19 +138,19 @@ too_many {done = done} h big ps k =
 
 -- ---- a list is read in one way
 
-same-places : (ps qs : List Place) → 1 ≤ length ps → 1 ≤ length qs → AllByRecursion SoundPlace ps → AllByRecursion SoundPlace qs → listed ps ≡ listed qs → ps ≡ qs
-same-places [] qs m n s t e = absurd (omega arith)
-same-places (p ∷ ps) [] m n s t e = absurd (omega arith)
-same-places (p ∷ []) (q ∷ []) m n s t e =
+same_places : (ps qs : List Place) → 1 ≤ length ps → 1 ≤ length qs → AllByRecursion SoundPlace ps → AllByRecursion SoundPlace qs → listed ps ≡ listed qs → ps ≡ qs
+same_places [] qs m n s t e = absurd (omega arith)
+same_places (p ∷ ps) [] m n s t e = absurd (omega arith)
+same_places (p ∷ []) (q ∷ []) m n s t e =
     let r = same_place (listed_at _ p [] s.0 refl) (listed_at _ q [] t.0 e) in λ i. r.0 i ∷ []
-same-places (p ∷ []) (q ∷ r ∷ qs) m n s t e =
+same_places (p ∷ []) (q ∷ r ∷ qs) m n s t e =
     let z = ap length (same_place (listed_at _ p [] s.0 refl) (listed_at _ q (r ∷ qs) t.0 e)).1 in absurd (omega arith)
-same-places (p ∷ r ∷ ps) (q ∷ []) m n s t e =
+same_places (p ∷ r ∷ ps) (q ∷ []) m n s t e =
     let z = ap length (same_place (listed_at _ p (r ∷ ps) s.0 refl) (listed_at _ q [] t.0 e)).1 in absurd (omega arith)
-same-places (p ∷ r ∷ ps) (q ∷ u ∷ qs) m n s t e =
+same_places (p ∷ r ∷ ps) (q ∷ u ∷ qs) m n s t e =
     let one = same_place (listed_at _ p (r ∷ ps) s.0 refl) (listed_at _ q (u ∷ qs) t.0 e) in
-    let on = same-places (r ∷ ps) (u ∷ qs) (omega arith) (omega arith) s.1 t.1 (ap (drop 1) one.1) in
+    let on = same_places (r ∷ ps) (u ∷ qs) (omega arith) (omega arith) s.1 t.1 (ap (drop 1) one.1) in
     λ i. one.0 i ∷ on i
 
 pub same_list : (ps qs : List Place) → SoundPlaces ps → SoundPlaces qs → listed ps ≡ listed qs → ps ≡ qs
-same_list ps qs s t e = same-places ps qs s.some t.some s.all t.all e
+same_list ps qs s t e = same_places ps qs s.some t.some s.all t.all e

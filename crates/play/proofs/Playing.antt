@@ -98,7 +98,7 @@ pub one_more : {Pre Good Good' : Type 0} {text left line left' : List ℕ} {n k 
     → (Good → Good' × LinePlayed h' (k + 1) call new at new' to h'') → Playing Pre Good' text n (k + 1) left' h old to new' h''
 one_more {k = k} {h = h} call p cut read room step =
     let next = next-line p.todo p.sound p.left_is cut in
-    let same : next.one ≡ call = unique next.one call next.sound.0 read.0 (sym next.line-is ∙ read.1) in
+    let same : next.one ≡ call = unique next.one call next.sound.0 read.0 (sym next.line_is ∙ read.1) in
     let more : p.todo ≡ call ∷ next.more = next.are ∙ ap (λ l. l ∷ next.more) same in
     let was = p.room in
     let counted = p.count in
@@ -109,7 +109,7 @@ one_more {k = k} {h = h} call p cut read room step =
       split = p.split ∙ ap (λ t. p.done ++ t) more ∙ sym (append_assoc p.done (call ∷ []) next.more);
       sound = next.sound.1;
       count = omega (arith, length-append p.done (call ∷ []));
-      left_is = next.rest-is;
+      left_is = next.rest_is;
       room = omega arith;
       going = λ pre.
           let g = p.going pre in
@@ -143,7 +143,7 @@ pub readable : {Pre Good : Type 0} {text left line left' : List ℕ} {n k : ℕ}
     → Playing Pre Good text n k left h old at new h' → Cut left line left' → ((l : Line) → Sound l → line ≡ written l → ⊥) → ⊥
 readable p cut none =
     let next = next-line p.todo p.sound p.left_is cut in
-    none next.one next.sound.0 next.line-is
+    none next.one next.sound.0 next.line_is
 
 -- ---- a correlator just made
 

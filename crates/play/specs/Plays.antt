@@ -6,7 +6,7 @@
 --   report_bytes k r        the bytes of what is reported of line k
 --   history_after h ls      the history after the calls of the lines ls, refused or not, made one after another from h
 --   Plays h k ls bs         from the history h on, the lines ls, of which the first is line k, are answered by the bytes bs
---   LinePlayed ..          what is done for one line
+--   LinePlayed ..           what is done for one line
 --   Answered ..             the text is lawful, the output has room for it, and was written as its lines are answered
 --   Unfit text room e       the text is refused with e, given an output of `room` bytes
 --   Played ..               what `play` does: it answers the text, or refuses it and alters nothing

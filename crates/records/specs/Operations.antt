@@ -4,7 +4,7 @@
 --   operation_of t name        the operation of a name, if there is one
 --   record_at t i              the record at position i, counted from 0 by rising name
 --   operation_at t i           the operation at position i, if there is one
---   FindsOperation t name r   r is the position of the operation of a name, or none and there is no such operation
+--   FindsOperation t name r    r is the position of the operation of a name, or none and there is no such operation
 use Rattle.std.specs.Prelude.{◌≡◌, ℕ, ◌<◌, cond, [], take, Some, None, Option, nat_lt, slice_index_or}
 use Rattle.table.specs.Lookups.{lookup}
 use Rattle.records.specs.declared.operations.Operations.{Operations}

@@ -83,12 +83,12 @@ at_index_agrees None test test' same = refl
 at_index_agrees (Some k) test test' same = rw (same k)
 
 -- comparisons are alike where the indexes and tests at the nodes 1 to n are
-pub comparisons-agree : (o o' : ℕ → Option ℕ) (test test' : ℕ → ℕ → Bool) (n : ℕ) →
+pub comparisons_agree : (o o' : ℕ → Option ℕ) (test test' : ℕ → ℕ → Bool) (n : ℕ) →
     ((i : ℕ) → 1 ≤ i → i ≤ n → (o i ≡ o' i) × ((k : ℕ) → test i k ≡ test' i k)) → comparisons o test n ≡ comparisons o' test' n
-comparisons-agree o o' test test' zero same = refl
-comparisons-agree o o' test test' (suc n) same =
+comparisons_agree o o' test test' zero same = refl
+comparisons_agree o o' test test' (suc n) same =
     let (index, tests) = same (suc n) (omega arith) (omega arith) in
-    rw (comparisons-agree o o' test test' n (λ i l m. same i l (omega arith)), index, at_index_agrees (o' (suc n)) (test (suc n)) (test' (suc n)) tests)
+    rw (comparisons_agree o o' test test' n (λ i l m. same i l (omega arith)), index, at_index_agrees (o' (suc n)) (test (suc n)) (test' (suc n)) tests)
 
 -- ---- answers agree
 
@@ -97,7 +97,7 @@ pub record Alike (vs ws : List Event) (x : ℕ) (xs : List ℕ) (x' : ℕ) (xs' 
   pub firsts : (i : ℕ) → first_at vs (x ∷ xs) i ≡ first_at ws (x' ∷ xs') i
   pub lasts : (i : ℕ) → last_at vs (x ∷ xs) i ≡ last_at ws (x' ∷ xs') i
   pub joint_pasts : (i : ℕ) → joint_past vs x xs i ≡ joint_past ws x' xs' i
-  pub whole-pasts : (i : ℕ) → whole_past vs x xs i ≡ whole_past ws x' xs' i
+  pub whole_pasts : (i : ℕ) → whole_past vs x xs i ≡ whole_past ws x' xs' i
   pub first_reaches : (i : ℕ) → first_reach vs x xs i ≡ first_reach ws x' xs' i
   pub joint_reaches : (i : ℕ) → joint_reach vs x xs i ≡ joint_reach ws x' xs' i
 
@@ -115,25 +115,25 @@ module _ (vs ws : List Event) (orderly : Orderly vs) (orderly' : Orderly ws) (sa
         firsts = λ i. same-joined_if _ _ min_chooses _ _ (x ∷ xs) (x' ∷ xs') (there-at i) (back_at i);
         lasts = λ i. same-joined_if _ _ max_chooses _ _ (x ∷ xs) (x' ∷ xs') (there-at i) (back_at i);
         joint_pasts = λ i. same-joined _ _ min_chooses _ _ x xs x' xs' (there-fore i) (back-fore i);
-        whole-pasts = λ i. same-joined _ _ max_chooses _ _ x xs x' xs' (there-fore i) (back-fore i);
+        whole_pasts = λ i. same-joined _ _ max_chooses _ _ x xs x' xs' (there-fore i) (back-fore i);
         first_reaches = λ i. rw (heights i, same-joined _ _ max_chooses (λ u. aft vs u i) (λ u. aft ws u i) x xs x' xs' (there-aft i) (back-aft i));
         joint_reaches = λ i. rw (heights i, same-joined _ _ min_chooses (λ u. aft vs u i) (λ u. aft ws u i) x xs x' xs' (there-aft i) (back-aft i));
       }
 
-compared-agree : (vs ws : List Event) (x : ℕ) (xs : List ℕ) (x' : ℕ) (xs' : List ℕ) (y : ℕ) (ys : List ℕ) (y' : ℕ) (ys' : List ℕ) → Alike vs ws x xs x' xs' → Alike vs ws y ys y' ys' →
+compared_agree : (vs ws : List Event) (x : ℕ) (xs : List ℕ) (x' : ℕ) (xs' : List ℕ) (y : ℕ) (ys : List ℕ) (y' : ℕ) (ys' : List ℕ) → Alike vs ws x xs x' xs' → Alike vs ws y ys y' ys' →
     (n r : ℕ) → compared r vs n x xs y ys ≡ compared r ws n x' xs' y' ys'
-compared-agree vs ws x xs x' xs' y ys y' ys' a b n r =
+compared_agree vs ws x xs x' xs' y ys y' ys' a b n r =
     rw (
-      comparisons-agree (last_at vs (x ∷ xs)) _ (λ i k. leb k (joint_past vs y ys i)) _ n (λ i _ _. (a.lasts i, λ k. ap (leb k) (b.joint_pasts i))),
-      comparisons-agree (last_at vs (x ∷ xs)) _ (λ i k. leb k (whole_past vs y ys i)) _ n (λ i _ _. (a.lasts i, λ k. ap (leb k) (b.whole-pasts i))),
-      comparisons-agree (last_at vs (y ∷ ys)) _ (λ i k. leb (joint_reach vs x xs i) k) _ n (λ i _ _. (b.lasts i, λ k. ap (λ c. leb c k) (a.joint_reaches i))),
-      comparisons-agree (first_at vs (x ∷ xs)) _ (λ i k. leb k (joint_past vs y ys i)) _ n (λ i _ _. (a.firsts i, λ k. ap (leb k) (b.joint_pasts i))),
-      comparisons-agree (first_at vs (y ∷ ys)) _ (λ i k. leb (first_reach vs x xs i) k) _ n (λ i _ _. (b.firsts i, λ k. ap (λ c. leb c k) (a.first_reaches i))),
-      comparisons-agree (first_at vs (x ∷ xs)) _ (λ i k. leb k (whole_past vs y ys i)) _ n (λ i _ _. (a.firsts i, λ k. ap (leb k) (b.whole-pasts i))),
+      comparisons_agree (last_at vs (x ∷ xs)) _ (λ i k. leb k (joint_past vs y ys i)) _ n (λ i _ _. (a.lasts i, λ k. ap (leb k) (b.joint_pasts i))),
+      comparisons_agree (last_at vs (x ∷ xs)) _ (λ i k. leb k (whole_past vs y ys i)) _ n (λ i _ _. (a.lasts i, λ k. ap (leb k) (b.whole_pasts i))),
+      comparisons_agree (last_at vs (y ∷ ys)) _ (λ i k. leb (joint_reach vs x xs i) k) _ n (λ i _ _. (b.lasts i, λ k. ap (λ c. leb c k) (a.joint_reaches i))),
+      comparisons_agree (first_at vs (x ∷ xs)) _ (λ i k. leb k (joint_past vs y ys i)) _ n (λ i _ _. (a.firsts i, λ k. ap (leb k) (b.joint_pasts i))),
+      comparisons_agree (first_at vs (y ∷ ys)) _ (λ i k. leb (first_reach vs x xs i) k) _ n (λ i _ _. (b.firsts i, λ k. ap (λ c. leb c k) (a.first_reaches i))),
+      comparisons_agree (first_at vs (x ∷ xs)) _ (λ i k. leb k (whole_past vs y ys i)) _ n (λ i _ _. (a.firsts i, λ k. ap (leb k) (b.whole_pasts i))),
     )
 
 pub walks_agree : WalksAgree
 walks_agree vs ws orderly orderly' same x xs x' xs' rx rx' px y ys y' ys' ry ry' py n r =
     let a = sets_alike vs ws orderly orderly' same x xs x' xs' rx rx' px in
     let b = sets_alike vs ws orderly orderly' same y ys y' ys' ry ry' py in
-    ap (λ bs. cond (is_every r) (every_walk bs) (some_walk bs)) (compared-agree vs ws x xs x' xs' y ys y' ys' a b n r)
+    ap (λ bs. cond (is_every r) (every_walk bs) (some_walk bs)) (compared_agree vs ws x xs x' xs' y ys y' ys' a b n r)

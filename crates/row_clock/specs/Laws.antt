@@ -5,7 +5,6 @@ use Rattle.std.proofs.lemmas.Bool.Decides.{same_from_decides}
 use Rattle.std.proofs.lemmas.Bool.{cases_eq, eq-eqb, or_left, and_from, and_parts, le-leb, leb-true}
 use Rattle.causality.specs.Newest.{Mem}
 use Rattle.causality.specs.Entries.{Entry, at_either, timeline, past, at, stamp}
-use Rattle.causality.specs.Limits.{max_nodes}
 use Rattle.causality.proofs.Newest.{entry-some, mem-entry, entry-kth, entry-order, numbers_in, numbers_descend}
 use Rattle.causality.proofs.Pasts.{own, at_low, pasts-lawful}
 use Rattle.causality.proofs.Counts.{tally_le, stamps_tell}
@@ -61,7 +60,7 @@ module _ (len : ℕ) (rows : List Row) (columns : List Column) (ts : List Entry)
       ap (listed (held_row rows)) (sym k.size)
       ∙ entries_held ts (held_row rows) (λ e l. let (ps, is) = k.placed e (omega (arith, k.size)) in (ps, is, λ x. reaches_past e x (omega (arith, k.size))))
 
-module _ (n len : ℕ) (rows : List Row) (columns : List Column) (small : n ≤ max_nodes) (kept : Kept len rows columns) where
+module _ (n len : ℕ) (rows : List Row) (columns : List Column) (kept : Kept len rows columns) where
   pub of_takes : OfTakes (rows_mean n len rows)
   of_takes = ∥∥₁_elim kept ∥∥₁_prop (λ (ts, k). ∣ (ts, entries_kept len rows columns ts k) ∣₁)
 

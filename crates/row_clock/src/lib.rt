@@ -154,13 +154,13 @@ impl RowClock {
 impl Clock for RowClock {
     ghost means = { λ s. rows_mean s.nodes s.len s.rows };
 
-    ghost own = { λ s. (rows_lawful s.nodes s.len s.rows s.columns s.within.1 s.kept).own };
+    ghost own = { λ s. (rows_lawful s.nodes s.len s.rows s.columns s.kept).own };
 
-    ghost through = { λ s. (rows_lawful s.nodes s.len s.rows s.columns s.within.1 s.kept).through };
+    ghost through = { λ s. (rows_lawful s.nodes s.len s.rows s.columns s.kept).through };
 
-    ghost earliest = { λ s. (rows_lawful s.nodes s.len s.rows s.columns s.within.1 s.kept).earliest };
+    ghost earliest = { λ s. (rows_lawful s.nodes s.len s.rows s.columns s.kept).earliest };
 
-    ghost no_higher = { λ s. (rows_lawful s.nodes s.len s.rows s.columns s.within.1 s.kept).no_higher };
+    ghost no_higher = { λ s. (rows_lawful s.nodes s.len s.rows s.columns s.kept).no_higher };
 
     fn new() -> RowClock {
         RowClock {

@@ -13,7 +13,7 @@ use Rattle.correlator.specs.Posted.{follower}
 use Rattle.correlator.specs.State.{history, fed_through}
 use Rattle.correlator.proofs.Kept.{kept-length}
 use Rattle.correlator.proofs.Events.{obeyed}
-use Rattle.correlator.proofs.Backs.{fed-whole, all-reverse}
+use Rattle.correlator.proofs.Backs.{fed_whole, all-reverse}
 use Rattle.correlator.proofs.state.Correlator.close.Goals as goal
 
 pub returns : goal.returns
@@ -25,7 +25,7 @@ returns g c pre =
     let held = sent_of s.sent in
     let empty : g.R.Clock.means s.reverse ≡ meaning s.nodes [] = pre.back ∙ ap (λ (t : Stage). meaning s.nodes (cond (is_closed t) (backward vs) [])) c.in-Open.is in
     let all = sym (reverse-reverse (take s.len s.events)) in
-    let whole = fed-whole vs lawful.accepted lawful.once held pre.posts s.nodes lawful.few (all-reverse (Fits s.nodes) vs lawful.fits) in (
+    let whole = fed_whole vs lawful.accepted lawful.once held pre.posts s.nodes lawful.few (all-reverse (Fits s.nodes) vs lawful.fits) in (
       record {
         ahead = pre.ahead;
         back =

@@ -4,7 +4,7 @@ use Rattle.clock.specs.Meaning.{counted}
 use Rattle.counting.specs.Counting.{or_zero}
 use Rattle.correlator.specs.State.{history}
 use Rattle.correlator.proofs.Events.{obeyed}
-use Rattle.correlator.proofs.Questions.{stamp-refusal, row-stamped, forward-count, reverse-count, reverse-closed}
+use Rattle.correlator.proofs.Questions.{stamp-refusal, row-stamped, forward-count, reverse-count, reverse_closed}
 use Rattle.correlator.proofs.state.Correlator.stamp.Goals as goal
 
 pub returns-in_err-x : goal.returns-in_err-x
@@ -41,5 +41,5 @@ returns-else-d-eq-FORWARD g c pre =
     let last = c.saturating_sub-else-d-eq-FORWARD.ensures ∙ ap (λ (n : ℕ). n - x) c.saturating_sub.ensures in (
       obeyed (history s) (history s) (Call.stamp p d len) tt (λ _. Unit {0}) free refl tt,
       c.write_counts-else-d-eq-FORWARD.ensures ∙ row-stamped f r s pre p d len x _ c.args.row.now free found.event
-          (λ i node. ap (λ (e : ℕ). or_zero (counted (r s.reverse) e i)) last ∙ reverse-count f r s pre p d x i c.if-d-eq-FORWARD.false (reverse-closed (history s) p d len free c.if-d-eq-FORWARD.false) found.event node),
+          (λ i node. ap (λ (e : ℕ). or_zero (counted (r s.reverse) e i)) last ∙ reverse-count f r s pre p d x i c.if-d-eq-FORWARD.false (reverse_closed (history s) p d len free c.if-d-eq-FORWARD.false) found.event node),
     )
