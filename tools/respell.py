@@ -16,6 +16,8 @@ HEAD = re.compile(r"^(\s*)(?:abbrev pub |unfoldable pub |pub |abbrev |unfoldable
 TYPE = re.compile(r"^\s*(?:pub )?(?:record|data) ([^\s(){},;.:]+)")
 TOKEN = re.compile(r"[^\s(){}\[\],;.:`\"]+")
 FACTS, FIELDS = set(), set()
+# names that are bound in a definition, or by an import
+BOUND = {n: n.replace("-", "_") for n in ("latest-at", "latest-at'", "nodes-fit", "other-is", "timeline-at")}
 STD = set("length take drop map append reverse get_or set sum has filter all replicate cond min max sub add nth mem".split())
 
 
@@ -99,7 +101,7 @@ def main():
         specs.update(ghosts(p))
     lemmas -= specs
     defined = {snake(n) for n in specs if not n[:1].isupper()} | STD
-    table = {}
+    table = dict(BOUND)
     for name in sorted(specs | lemmas):
         if not re.match(r"[A-Za-z]", name) or name.endswith("-law"):
             continue
