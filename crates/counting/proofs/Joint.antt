@@ -8,7 +8,7 @@ use Rattle.gathering.specs.Gathering.{joined_all, zipped}
 use Rattle.gathering.proofs.Folds.{folded_out}
 use Rattle.gathering.specs.Zips.{zipped_assoc, length-zipped, get_or-zipped}
 use Rattle.history.specs.Answers.{row}
-use Rattle.counting.specs.Counting.{or_zero, count_row, Joint}
+use Rattle.counting.specs.Counting.{or_zero, or_zeros, count_row, Joint, JointRow}
 use Rattle.counting.proofs.Rows.{length-row}
 
 get_or-left : (xs ys : List ℕ) (i : ℕ) → i < length xs → get_or (xs ++ ys) i 0 ≡ get_or xs i 0
@@ -21,7 +21,7 @@ get_or-next [] y i e = rw e refl
 get_or-next (x ∷ xs) y zero e = absurd (omega arith)
 get_or-next (x ∷ xs) y (suc i) e = get_or-next xs y i (omega arith)
 
-get_or-row : (f : ℕ → ℕ) (n i : ℕ) → i < n → get_or (row f n) i 0 ≡ f (suc i)
+pub get_or-row : (f : ℕ → ℕ) (n i : ℕ) → i < n → get_or (row f n) i 0 ≡ f (suc i)
 get_or-row f zero i l = absurd (omega arith)
 get_or-row f (suc n) i l =
     elim (cases_eq i n) [
@@ -49,6 +49,10 @@ module _ (f : ℕ → ℕ → ℕ) (associative : (x y z : ℕ) → f (f x y) z 
         ap (λ (r : Row). get_or r.counts i 0) (folded_out op op-associative (of x) (of u) (map of us))
         ∙ get_or-zipped f (of x).counts (fold op (of u) (map of us)).counts i 0 (omega (arith, long x)) (omega (arith, long-joined u us))
         ∙ ap (f (get_or (of x).counts i 0)) (at_place u us i l)
+
+    pub joint_rows : (es : List ℕ) (r : Row) → r ≡ or_zeros (joined_all op (map of es)) → JointRow f of es r
+    joint_rows [] r e = tt
+    joint_rows (x ∷ xs) r e = λ i l. ap (λ (q : Row). get_or q.counts i 0) e ∙ at_place x xs i l
 
   joined_like : (g h : ℕ → ℕ) → ((u : ℕ) → g u ≡ h u) → (x : ℕ) (xs : List ℕ) → joined f g x xs ≡ joined f h x xs
   joined_like g h e x [] = e x

@@ -3,7 +3,7 @@
 
 ghost use Rattle.std.specs.Prelude.{◌≡◌, ◌≤◌, min, max, ◌++◌, map, length, drop};
 ghost use Rattle.clock.specs.Meaning.{counted};
-ghost use Rattle.counting.specs.Counting.{Joint, count_row, or_zero};
+ghost use Rattle.counting.specs.Counting.{Joint, count_row, or_zero, or_zeros};
 ghost use Rattle.gathering.specs.Gathering.{joined_all};
 ghost use Rattle.history.specs.Answers.{with_row};
 
@@ -12,6 +12,9 @@ use gathering::{Greatest, Joining, Least, ROW, Row, gather};
 
 /// The most entries of which rows are gathered.
 pub const MAX_ROWS: usize = 512;
+
+/// A row of zeros.
+pub const NO_ROW: Row = Row { counts: [0; ROW] };
 
 /// A count, or 0 where it is absent.
 pub fn or_zero(count: Option<u16>) -> u16
@@ -76,4 +79,14 @@ pub fn greatest_counts<C: Clock>(clock: &C, entries: &[u16]) -> Option<Row>
     ensures { Joint max (C.Clock.means clock.now) entries.now result }
 {
     joint_row::<C, Greatest>(clock, entries)
+}
+
+/// Some rows joined; zeros if there are none.
+pub fn joined_row<J: Joining<Row>>(rows: &[Row]) -> Row
+    ensures { result ≡ or_zeros (joined_all J.Joining.op rows.now) }
+{
+    match gather::<Row, J>(rows) {
+        Some(row) => row,
+        None => NO_ROW,
+    }
 }

@@ -3,8 +3,9 @@
 --   joined_all op xs     all of xs joined, from the first on; none of an empty list
 --   joined_two op o p    two such results joined
 --   zipped f xs ys       f of the numbers at each place
+--   earliest x y         the least of two numbers, where 0 stands for none
 --   Lowest at rows m     m is at most each number that `at` gives of the rows, and is one of them; Highest likewise
-use Rattle.std.specs.Prelude.{◌≡◌, ℕ, ◌<◌, ◌≤◌, List, [], ◌∷◌, length, Some, None, fold, Option, slice_index_or}
+use Rattle.std.specs.Prelude.{◌≡◌, ℕ, ◌<◌, ◌≤◌, min, cond, ◌==◌, List, [], ◌∷◌, length, Some, None, fold, Option, slice_index_or}
 
 abbrev pub joined_all : {X : Type 0} → (X → X → X) → List X → Option X
 joined_all op [] = None
@@ -30,3 +31,6 @@ Lowest at rows m = Extreme (λ x y. x ≤ y) at rows m
 
 abbrev pub Highest : {X : Type 0} → (X → ℕ) → List X → ℕ → Type 0
 Highest at rows m = Extreme (λ x y. y ≤ x) at rows m
+
+abbrev pub earliest : ℕ → ℕ → ℕ
+earliest x y = cond (x == 0) y (cond (y == 0) x (min x y))

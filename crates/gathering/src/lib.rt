@@ -2,8 +2,9 @@
 #![tactic(auto)]
 
 ghost use Rattle.std.specs.Prelude.{◌≡◌, ℕ, ◌<◌, min, max, ◌++◌, length, MatchOption, slice_index};
-ghost use Rattle.gathering.specs.Gathering.{Highest, Lowest, joined_all, zipped};
+ghost use Rattle.gathering.specs.Gathering.{Highest, Lowest, earliest, joined_all, zipped};
 ghost use Rattle.std.proofs.Common.{ap, rules, arith};
+ghost use Rattle.gathering.specs.Absent.{earliest_associative};
 ghost use Rattle.gathering.specs.Zips.{zipped_assoc};
 
 /// A way to join two values of T into one, in any grouping. A type without values of its own names it.
@@ -58,6 +59,10 @@ pub struct Least;
 #[derive(Clone, Copy)]
 pub struct Greatest;
 
+/// The joining that takes the least, where 0 stands for no number.
+#[derive(Clone, Copy)]
+pub struct Earliest;
+
 impl Joining<u16> for Least {
     ghost op = { min };
 
@@ -75,6 +80,22 @@ impl Joining<u16> for Greatest {
 
     fn join(a: u16, b: u16) -> u16 {
         a.max(b)
+    }
+}
+
+impl Joining<u16> for Earliest {
+    ghost op = { earliest };
+
+    ghost associative = { λ x y z. earliest_associative x y z };
+
+    fn join(a: u16, b: u16) -> u16 {
+        if a == 0 {
+            b
+        } else if b == 0 {
+            a
+        } else {
+            <Least as Joining<u16>>::join(a, b)
+        }
     }
 }
 
@@ -106,6 +127,16 @@ impl Joining<Row> for Greatest {
 
     fn join(a: Row, b: Row) -> Row {
         each_place::<Greatest>(a, b)
+    }
+}
+
+impl Joining<Row> for Earliest {
+    ghost op = { λ x y. record { counts = zipped earliest x.counts y.counts } };
+
+    ghost associative = { λ x y z. ap (λ l. record { counts = l }) (zipped_assoc earliest earliest_associative x.counts y.counts z.counts) };
+
+    fn join(a: Row, b: Row) -> Row {
+        each_place::<Earliest>(a, b)
     }
 }
 

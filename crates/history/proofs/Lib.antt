@@ -1,2 +1,4 @@
 pub mod Passed
 pub mod Lawful
+pub mod Named
+pub mod Members

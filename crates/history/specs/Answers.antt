@@ -4,16 +4,17 @@
 --                          it leaves h', the history after c, and what it answers when accepted is Right
 --   next_place h a         the place that the next event of node a has
 --   Compared vs x y o      o tells how event x stands to event y
+--   stamped, cut_row       what a stamp and a cut leave in the row that they are lent
 --   stamp_number h d x i   how many events of node i are x or before it (d is 1), or are x or after it (d is 2)
 use Rattle.std.specs.Prelude.{◌≡◌, ℕ, zero, suc, cond, ◌↔◌, List, [], ◌∷◌, ◌++◌, drop, IfOk, Some, None, Ok, Err, Option, Result, ◌==◌}
 use Rattle.causality.specs.declared.CausalOrder.{CausalOrder}
 use Rattle.causality.specs.declared.Event.{Event}
 use Rattle.causality.specs.declared.Place.{Place}
 use Rattle.causality.specs.Traces.{Before}
-use Rattle.causality.specs.Relations.{fore, aft}
+use Rattle.causality.specs.Relations.{fore, aft, joint_past, whole_past, first_reach, joint_reach}
 use Rattle.causality.specs.Columns.{next_index}
 use Rattle.history.specs.declared.refusal.Refusal.{Refusal}
-use Rattle.history.specs.History.{History, is_none, named}
+use Rattle.history.specs.History.{History, is_none, named, members_of}
 use Rattle.history.specs.Calls.{Call, refusal, next_history}
 
 -- why a call was refused, if it was
@@ -62,3 +63,17 @@ stamp_if h d (Some x) old = with_row h.nodes (stamp_number h d x) old
 -- what a stamp leaves in the row that it is lent: unless it is refused, the numbers of the nodes 1 to n at its front
 abbrev pub stamped : History → Place → ℕ → ℕ → List ℕ → List ℕ
 stamped h p d len old = cond (is_none (refusal h (Call.stamp p d len))) (stamp_if h d (named h p) old) old
+
+-- the number at node i of cut w of the members x and xs: joint past (1), whole past (2), first reach (3), joint reach (4)
+abbrev pub cut_number : List Event → ℕ → ℕ → List ℕ → ℕ → ℕ
+cut_number vs w x xs i =
+    cond (w == 1) (joint_past vs x xs i) (cond (w == 2) (whole_past vs x xs i) (cond (w == 3) (first_reach vs x xs i) (joint_reach vs x xs i)))
+
+abbrev pub cut_if : History → ℕ → Option (List ℕ) → List ℕ → List ℕ
+cut_if h w None old = old
+cut_if h w (Some []) old = old
+cut_if h w (Some (x ∷ xs)) old = with_row h.nodes (cut_number h.events w x xs) old
+
+-- what a cut leaves in the row that it is lent: unless it is refused, the numbers of the nodes 1 to n at its front
+abbrev pub cut_row : History → List ℕ → ℕ → ℕ → List ℕ → List ℕ
+cut_row h name w len old = cond (is_none (refusal h (Call.cut name w len))) (cut_if h w (members_of h name) old) old

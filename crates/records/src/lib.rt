@@ -5,4 +5,4 @@ pub mod messages;
 pub mod operations;
 
 pub use messages::{Messages, Sent};
-pub use operations::{Operation, Operations};
+pub use operations::{MAX_MEMBERS, MAX_OPERATIONS, Operation, Operations};

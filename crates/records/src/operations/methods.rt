@@ -1,10 +1,25 @@
 //! Looking up and adding operations.
 
-ghost use Rattle.std.specs.Prelude.{◌≡◌, ℕ, ◌+◌, ◌<◌, if◌then◌else◌, Some, None, nat_eq};
-ghost use Rattle.records.specs.Operations.{FindsOperation, operation_at, operation_of};
+ghost use Rattle.std.specs.Prelude.{◌≡◌, ℕ, ◌+◌, ◌<◌, if◌then◌else◌, Some, None, MatchOption, nat_eq};
+ghost use Rattle.records.specs.Operations.{FindsOperation, cut_of, operation_at, operation_of};
 
 use super::{MAX_MEMBERS, MAX_OPERATIONS, Operation, Operations};
 use gathering::{ROW, Row};
+
+impl Operation {
+    /// A cut by its number: joint past (1), whole past (2), first reach (3), joint reach (4).
+    pub fn cut(&self, w: u16) -> Option<Row>
+        ensures { result ≡ cut_of self.now w }
+    {
+        match w {
+            1 => Some(self.cuts[0]),
+            2 => Some(self.cuts[1]),
+            3 => Some(self.cuts[2]),
+            4 => Some(self.cuts[3]),
+            _ => None,
+        }
+    }
+}
 
 impl Operations {
     /// No operations.
@@ -66,6 +81,16 @@ impl Operations {
     {
         match table::find(&self.records, self.len, &name) {
             Some(at) => Some(self.records[at]),
+            None => None,
+        }
+    }
+
+    /// The operation of this name, if there is one, where it lies.
+    pub fn get_ref(&self, name: u64) -> Option<&Operation>
+        ensures { MatchOption result (operation_of self.now name ≡ None) (λ o. operation_of self.now name ≡ Some o.now) }
+    {
+        match table::find(&self.records, self.len, &name) {
+            Some(at) => Some(&self.records[at]),
             None => None,
         }
     }

@@ -1,0 +1,11 @@
+//! The record of an operation, from what the clocks count of its members.
+#![tactic(auto)]
+
+mod members;
+mod rows;
+mod summary;
+
+pub use members::Members;
+pub use members::methods::members_at;
+pub use rows::write_row;
+pub use summary::summarize;
