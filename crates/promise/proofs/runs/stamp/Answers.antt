@@ -1,4 +1,4 @@
-use Rattle.std.proofs.Common.{◌≡◌, length, sym, refl, ap, arith, rules}
+use Rattle.std.proofs.Common.{◌≡◌, length, sym, refl, ap, rules}
 use Rattle.correlator.specs.State.{history}
 use Rattle.history.specs.Calls.{Call}
 use Rattle.history.specs.Answers.{stamped}

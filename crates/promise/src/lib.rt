@@ -1,6 +1,7 @@
 //! The whole promise of the correlator, on a call that runs: two correlators on any four clocks, each given any list of calls.
 //!
 //! `specs/Promise.antt` states it.
+#![tactic(auto)]
 
 mod requests;
 mod runs;
