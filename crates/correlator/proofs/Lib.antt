@@ -1,5 +1,6 @@
 pub mod Kept
-pub mod Posts
+pub mod Refusing
 pub mod Events
 pub mod Questions
-pub mod Backs
+pub mod Starting
+pub mod Operating

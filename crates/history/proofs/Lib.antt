@@ -1,4 +1,3 @@
 pub mod Passed
-pub mod Lawful
 pub mod Named
-pub mod Members
+pub mod Lawful

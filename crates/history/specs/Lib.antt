@@ -3,4 +3,3 @@ pub mod History
 pub mod Calls
 pub mod Answers
 pub mod Lawful
-pub mod Members

@@ -1,3 +1,2 @@
-pub mod Reading
-pub mod Keys
+pub mod ByKind
 pub mod Unique

@@ -1,3 +1,2 @@
-pub mod Parts
 pub mod Forms
-pub mod Heads
+pub mod Lines

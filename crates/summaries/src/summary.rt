@@ -34,11 +34,9 @@ pub fn summarize<F: Clock, R: Clock>(
         members: members.events,
         first,
         last,
-        cuts: [
-            joint_past,
-            whole_past,
-            from_end(&ends, &greatest),
-            from_end(&ends, &least),
-        ],
+        joint_past,
+        whole_past,
+        first_reach: from_end(&ends, &greatest),
+        joint_reach: from_end(&ends, &least),
     }
 }
