@@ -1,4 +1,5 @@
-//! The worked job in two orders of arrival, each run on every pair of clocks: the program prints how many answers differ.
+//! The worked job in two orders of arrival, each run on every pair of clocks: the program prints how many answers differ from
+//! those of the job, by hand.
 #![tactic(auto)]
 
 use causality::{CausalOrder, Place};
@@ -13,12 +14,12 @@ use std::io;
 /// How many calls tell the job, and how many ask about it.
 const TOLD: usize = 10;
 
-const ASKED: usize = 23;
+const ASKED: usize = 11;
 
 const CALLS: usize = TOLD + ASKED;
 
 /// Three nodes, an overtaking message and a meet, as they arrived.
-const ARRIVED: [Request<'static, 'static>; TOLD] = [
+const ARRIVED: [Request; TOLD] = [
     Request::Start(3),
     Request::Local(1),
     Request::Send(1, 7),
@@ -32,7 +33,7 @@ const ARRIVED: [Request<'static, 'static>; TOLD] = [
 ];
 
 /// The same job as it arrived at another time.
-const REARRIVED: [Request<'static, 'static>; TOLD] = [
+const REARRIVED: [Request; TOLD] = [
     Request::Start(3),
     Request::Send(2, 8),
     Request::Local(1),
@@ -50,34 +51,19 @@ const LENT: Lent = Lent {
     len: 3,
 };
 
-/// Operations, and questions of every kind, some of them refused.
-const QUESTIONS: [Request<'static, 'static>; ASKED] = [
-    Request::Gather(
-        b"SETUP",
-        &[Place { node: 1, index: 2 }, Place { node: 2, index: 1 }],
-    ),
-    Request::Gather(b"PICK", &[Place { node: 3, index: 2 }]),
-    Request::Gather(b"REST", &[Place { node: 1, index: 3 }]),
-    Request::Gather(b"REST", &[Place { node: 1, index: 1 }]),
+/// Questions of every kind, some of them refused.
+const QUESTIONS: [Request; ASKED] = [
     Request::Local(1),
     Request::Order(Place { node: 1, index: 3 }, Place { node: 3, index: 4 }),
     Request::Order(Place { node: 2, index: 2 }, Place { node: 3, index: 3 }),
     Request::Order(Place { node: 1, index: 2 }, Place { node: 3, index: 4 }),
     Request::Order(Place { node: 3, index: 1 }, Place { node: 1, index: 1 }),
     Request::Order(Place { node: 2, index: 3 }, Place { node: 1, index: 1 }),
-    Request::Relate(1, b"SETUP", b"PICK"),
-    Request::Relate(3, b"SETUP", b"PICK"),
-    Request::Relate(6, b"PICK", b"SETUP"),
-    Request::Relate(2, b"SETUP", b"REST"),
-    Request::Relate(5, b"SETUP", b"REST"),
-    Request::Relate(6, b"SETUP", b"SETUP"),
-    Request::Relate(7, b"SETUP", b"SETUP"),
     Request::Stamp(Place { node: 3, index: 2 }, 1, LENT),
     Request::Stamp(Place { node: 2, index: 2 }, 1, LENT),
     Request::Stamp(Place { node: 2, index: 1 }, 2, LENT),
     Request::Stamp(Place { node: 1, index: 2 }, 2, LENT),
-    Request::Cut(b"SETUP", 3, LENT),
-    Request::Cut(b"SETUP", 4, LENT),
+    Request::Stamp(Place { node: 1, index: 2 }, 3, LENT),
 ];
 
 const UNANSWERED: Answer = Answer {
@@ -86,7 +72,7 @@ const UNANSWERED: Answer = Answer {
 };
 
 // The calls that tell a job, and then the questions.
-fn calls(told: &[Request<'static, 'static>; TOLD]) -> [Request<'static, 'static>; CALLS] {
+fn calls(told: &[Request; TOLD]) -> [Request; CALLS] {
     let mut all = [Request::Close; CALLS];
     for k in 0..TOLD {
         all[k] = told[k];
@@ -102,7 +88,6 @@ fn same_value(a: Value, b: Value) -> bool {
         (Value::Done, Value::Done) => true,
         (Value::Placed(p), Value::Placed(q)) => p == q,
         (Value::Ordered(o), Value::Ordered(p)) => o == p,
-        (Value::Related(v, s), Value::Related(w, t)) => v == w && s == t,
         _ => false,
     }
 }
@@ -116,17 +101,60 @@ fn same(a: Answer, b: Answer) -> bool {
     results && a.row.counts == b.row.counts
 }
 
-// How many questions the two runs answer differently.
+fn refused(refusal: Refusal) -> Answer {
+    Answer {
+        result: Err(refusal),
+        row: NO_ROW,
+    }
+}
+
+fn ordered(order: CausalOrder) -> Answer {
+    Answer {
+        result: Ok(Value::Ordered(order)),
+        row: NO_ROW,
+    }
+}
+
+fn stamped(a: u16, b: u16, c: u16) -> Answer {
+    let mut row = NO_ROW;
+    row.counts[0] = a;
+    row.counts[1] = b;
+    row.counts[2] = c;
+    Answer {
+        result: Ok(Value::Done),
+        row,
+    }
+}
+
+// What the worked job answers, worked out by hand from its links.
+fn wanted() -> [Answer; ASKED] {
+    [
+        refused(Refusal::Closed),
+        ordered(CausalOrder::Concurrent),
+        ordered(CausalOrder::Same),
+        ordered(CausalOrder::Before),
+        ordered(CausalOrder::After),
+        refused(Refusal::NoEvent),
+        stamped(2, 1, 2),
+        stamped(2, 2, 3),
+        stamped(0, 2, 3),
+        stamped(2, 1, 4),
+        refused(Refusal::BadSelector),
+    ]
+}
+
+// How many questions one of the two runs does not answer as it should.
 fn differing<F: Clock + Drop, R: Clock + Drop, G: Clock + Drop, S: Clock + Drop>(
-    first: &[Request<'static, 'static>; CALLS],
-    second: &[Request<'static, 'static>; CALLS],
+    first: &[Request; CALLS],
+    second: &[Request; CALLS],
 ) -> usize {
     let mut answers = [UNANSWERED; CALLS];
     let mut others = [UNANSWERED; CALLS];
     let _ = run_both::<F, R, G, S>(first, second, &mut answers, &mut others);
+    let wanted = wanted();
     let mut count = 0usize;
-    for k in TOLD..CALLS {
-        if !same(answers[k], others[k]) {
+    for k in 0..ASKED {
+        if !same(answers[TOLD + k], wanted[k]) || !same(others[TOLD + k], wanted[k]) {
             count = count.saturating_add(1);
         }
     }
@@ -135,8 +163,8 @@ fn differing<F: Clock + Drop, R: Clock + Drop, G: Clock + Drop, S: Clock + Drop>
 
 // The same for one pair of clocks against each pair.
 fn against_all<F: Clock + Drop, R: Clock + Drop>(
-    first: &[Request<'static, 'static>; CALLS],
-    second: &[Request<'static, 'static>; CALLS],
+    first: &[Request; CALLS],
+    second: &[Request; CALLS],
 ) -> [usize; 4] {
     [
         differing::<F, R, RowClock, RowClock>(first, second),

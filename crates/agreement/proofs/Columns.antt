@@ -12,9 +12,9 @@ use Rattle.causality.specs.Traces.{node_of, partner_of, stands, events_at}
 use Rattle.causality.specs.Columns.{column, EqualColumns}
 use Rattle.causality.proofs.Newest.{all-entry, numbers_out}
 use Rattle.history.specs.History.{History, is_none, named}
-use Rattle.history.specs.Lawful.{if_node, Fits, Lawful}
+use Rattle.history.specs.Lawful.{if_node, Fits}
 use Rattle.relating.proofs.Agreements.{column_heights}
-use Rattle.agreement.specs.Agreement.{SameColumns}
+use Rattle.agreement.specs.Agreement.{Reached, SameColumns}
 
 -- ---- events stand at nodes
 
@@ -29,10 +29,10 @@ fits-node n v fits i s =
       | inr e ↦ partner-node n (partner_of v) i e fits.there
     ]
 
-pub only_nodes : (h : History) → Lawful h → (i x : ℕ) → Mem x (events_at h.events i) → (1 ≤ i) × (i ≤ h.nodes)
-only_nodes h lawful i x m =
+pub only_nodes : (h : History) → Reached h → (i x : ℕ) → Mem x (events_at h.events i) → (1 ≤ i) × (i ≤ h.nodes)
+only_nodes h reached i x m =
     let (v, e, s) = numbers_out (λ v. stands v i) h.events x m in
-    let fits = all-entry (Fits h.nodes) h.events x v lawful.fits e in
+    let fits = all-entry (Fits h.nodes) h.events x v reached.lawful.fits e in
     let (low, high) = and_parts (leb 1 i) (leb i h.nodes) (fits-node h.nodes v fits i s) in
     (leb-true 1 i low, leb-true i h.nodes high)
 
@@ -44,11 +44,11 @@ no_column n i out (v ∷ vs) (fits, all) =
       | inr s ↦ rw s (no_column n i out vs all)
     ]
 
-pub equal_columns : (h k : History) → Lawful h → Lawful k → SameColumns h k → EqualColumns h.events k.events
-equal_columns h k lawful lawful' same i =
+pub equal_columns : (h k : History) → Reached h → Reached k → SameColumns h k → EqualColumns h.events k.events
+equal_columns h k reached reached' same i =
     elim (cases_Bool (is_node h.nodes i)) [
       | inl s ↦ same.columns i s
-      | inr s ↦ no_column h.nodes i s h.events lawful.fits ∙ sym (no_column k.nodes i (subst (λ n. is_node n i ≡ false) same.nodes s) k.events lawful'.fits)
+      | inr s ↦ no_column h.nodes i s h.events reached.lawful.fits ∙ sym (no_column k.nodes i (subst (λ n. is_node n i ≡ false) same.nodes s) k.events reached'.lawful.fits)
     ]
 
 -- ---- places name events alike
@@ -66,9 +66,9 @@ kth-none xs ys k long =
       | inr s ↦ rw s (entry-none xs (k - 1) ∙ ap (λ n. leb n (k - 1)) long ∙ sym (entry-none ys (k - 1)))
     ]
 
-pub named_alike : (h k : History) → Lawful h → Lawful k → SameColumns h k → (p : Place) → is_none (named h p) ≡ is_none (named k p)
-named_alike h k lawful lawful' same p =
-    let long = column_heights h.events k.events (equal_columns h k lawful lawful' same) p.node in
+pub named_alike : (h k : History) → Reached h → Reached k → SameColumns h k → (p : Place) → is_none (named h p) ≡ is_none (named k p)
+named_alike h k reached reached' same p =
+    let long = column_heights h.events k.events (equal_columns h k reached reached' same) p.node in
     let alike = kth-none (events_at h.events p.node) (events_at k.events p.node) p.index long in
     rw same.nodes (elim (cases_Bool (is_node k.nodes p.node)) [ inl s ↦ rw s alike | inr s ↦ rw s refl ])
 

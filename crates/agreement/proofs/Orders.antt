@@ -93,12 +93,12 @@ module _ (vs ws : List Event) (orderly : Orderly vs) (orderly' : Orderly ws) (sa
 -- ---- orders agree
 
 pub orders-agree : OrdersAgree
-orders-agree h k lawful lawful' same p q r s (er, mr) (es, ms) =
-    let orderly = accepted_is_orderly h.events lawful.accepted in
-    let orderly' = accepted_is_orderly k.events lawful'.accepted in
-    let columns = equal_columns h k lawful lawful' same in
-    let np = named_alike h k lawful lawful' same p in
-    let nq = named_alike h k lawful lawful' same q in
+orders-agree h k reached reached' same p q r s (er, mr) (es, ms) =
+    let orderly = accepted_is_orderly h.events reached.lawful.accepted in
+    let orderly' = accepted_is_orderly k.events reached'.lawful.accepted in
+    let columns = equal_columns h k reached reached' same in
+    let np = named_alike h k reached reached' same p in
+    let nq = named_alike h k reached reached' same q in
     let refused : refusal h (Call.order p q) ≡ refusal k (Call.order p q) = rw (same.started, same.also_started, np, nq) in
     same_results _ _ (refusal h (Call.order p q)) r s er (es ∙ sym refused) mr ms
     (λ free o o' right right'.

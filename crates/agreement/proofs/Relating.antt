@@ -5,13 +5,12 @@ use Rattle.causality.proofs.Traces.{accepted_is_orderly}
 use Rattle.history.specs.declared.Stage.{Stage}
 use Rattle.history.specs.History.{History, is_idle, is_open, is_closed, members_of}
 use Rattle.history.specs.Calls.{Call, refusals, refusal}
-use Rattle.history.specs.Lawful.{Lawful}
 use Rattle.history.proofs.Passed.{passed}
 use Rattle.relating.specs.Walks.{walk}
 use Rattle.relating.specs.Agreements.{SamePlaces}
 use Rattle.relating.proofs.Agreements.{walks_agree}
 use Rattle.relating.proofs.Related.{walks_related, one_answer}
-use Rattle.agreement.specs.Agreement.{SameOperation, RelationOf, RelationsAgree}
+use Rattle.agreement.specs.Agreement.{Reached, SameOperation, RelationOf, RelationsAgree}
 use Rattle.agreement.proofs.Columns.{equal_columns, only_nodes}
 use Rattle.agreement.proofs.Results.{same_results}
 
@@ -30,29 +29,29 @@ pub record Sets (h : History) (X : List ℕ) (k : History) (X' : List ℕ) : Typ
   pub also_members : members_of k X' ≡ Some (x' ∷ xs')
   pub places : SamePlaces h.events (x ∷ xs) k.events (x' ∷ xs')
 
-pub sets : (h k : History) → Lawful h → Lawful k → (X X' : List ℕ) → SameOperation h X k X' → Sets h X k X'
-sets h k lawful lawful' X X' o = go o.xs o.xs' o.members o.also_members o.places
+pub sets : (h k : History) → Reached h → Reached k → (X X' : List ℕ) → SameOperation h X k X' → Sets h X k X'
+sets h k reached reached' X X' o = go o.xs o.xs' o.members o.also_members o.places
   where
     go : (xs xs' : List ℕ) → members_of h X ≡ Some xs → members_of k X' ≡ Some xs' → SamePlaces h.events xs k.events xs' → Sets h X k X'
-    go [] xs' e e' p = absurd (omega (arith, (lawful.members X [] e).some))
-    go (x ∷ xs) [] e e' p = absurd (omega (arith, (lawful'.members X' [] e').some))
+    go [] xs' e e' p = absurd (omega (arith, (reached.members X [] e).some))
+    go (x ∷ xs) [] e e' p = absurd (omega (arith, (reached'.members X' [] e').some))
     go (x ∷ xs) (x' ∷ xs') e e' p = record { x = x; xs = xs; x' = x'; xs' = xs'; members = e; also_members = e'; places = p }
 
 -- the answer of a relation is that of its walk
-pub walked : (h : History) → Lawful h → (r : ℕ) → 1 ≤ r → r ≤ 6 → (X Y : List ℕ) (x : ℕ) (xs : List ℕ) (y : ℕ) (ys : List ℕ) →
+pub walked : (h : History) → Reached h → (r : ℕ) → 1 ≤ r → r ≤ 6 → (X Y : List ℕ) (x : ℕ) (xs : List ℕ) (y : ℕ) (ys : List ℕ) →
     members_of h X ≡ Some (x ∷ xs) → members_of h Y ≡ Some (y ∷ ys) → (a : Bool × ℕ) → RelationOf h r X Y a → a ≡ walk r h.events h.nodes x xs y ys
-walked h lawful r low high X Y x xs y ys ex ey a right =
+walked h reached r low high X Y x xs y ys ex ey a right =
     one_answer r h.events h.nodes x xs y ys a _ (right x xs y ys ex ey)
-    (walks_related h.events (accepted_is_orderly h.events lawful.accepted) h.nodes (only_nodes h lawful) x xs y ys
-    (lawful.members X (x ∷ xs) ex).held (lawful.members Y (y ∷ ys) ey).held r low high)
+    (walks_related h.events (accepted_is_orderly h.events reached.lawful.accepted) h.nodes (only_nodes h reached) x xs y ys
+    (reached.members X (x ∷ xs) ex).held (reached.members Y (y ∷ ys) ey).held r low high)
 
 pub relations-agree : RelationsAgree
-relations-agree h k lawful lawful' same closed closed' X Y X' Y' ox oy r a b (ea, ma) (eb, mb) =
-    let orderly = accepted_is_orderly h.events lawful.accepted in
-    let orderly' = accepted_is_orderly k.events lawful'.accepted in
-    let columns = equal_columns h k lawful lawful' same in
-    let X-is = sets h k lawful lawful' X X' ox in
-    let Y-is = sets h k lawful lawful' Y Y' oy in
+relations-agree h k reached reached' same closed closed' X Y X' Y' ox oy r a b (ea, ma) (eb, mb) =
+    let orderly = accepted_is_orderly h.events reached.lawful.accepted in
+    let orderly' = accepted_is_orderly k.events reached'.lawful.accepted in
+    let columns = equal_columns h k reached reached' same in
+    let X-is = sets h k reached reached' X X' ox in
+    let Y-is = sets h k reached reached' Y Y' oy in
     let (began, shut) = closed-stage h.stage closed in
     let (began', shut') = closed-stage k.stage closed' in
     let refused : refusal h (Call.relate r X Y) ≡ refusal k (Call.relate r X' Y') =
@@ -63,10 +62,10 @@ relations-agree h k lawful lawful' same closed closed' X Y X' Y' ox oy r a b (ea
     let (one, six) = and_parts (leb 1 r) (leb r 6) (not-false _ number) in
     let low = leb-true 1 r one in
     let high = leb-true r 6 six in
-    walked h lawful r low high X Y X-is.x X-is.xs Y-is.x Y-is.xs X-is.members Y-is.members v right
+    walked h reached r low high X Y X-is.x X-is.xs Y-is.x Y-is.xs X-is.members Y-is.members v right
     ∙ walks_agree h.events k.events orderly orderly' columns
-    X-is.x X-is.xs X-is.x' X-is.xs' (lawful.members X _ X-is.members).held (lawful'.members X' _ X-is.also_members).held X-is.places
-    Y-is.x Y-is.xs Y-is.x' Y-is.xs' (lawful.members Y _ Y-is.members).held (lawful'.members Y' _ Y-is.also_members).held Y-is.places
+    X-is.x X-is.xs X-is.x' X-is.xs' (reached.members X _ X-is.members).held (reached'.members X' _ X-is.also_members).held X-is.places
+    Y-is.x Y-is.xs Y-is.x' Y-is.xs' (reached.members Y _ Y-is.members).held (reached'.members Y' _ Y-is.also_members).held Y-is.places
     h.nodes r
     ∙ ap (λ n. walk r k.events n X-is.x' X-is.xs' Y-is.x' Y-is.xs') same.nodes
-    ∙ sym (walked k lawful' r low high X' Y' X-is.x' X-is.xs' Y-is.x' Y-is.xs' X-is.also_members Y-is.also_members w right'))
+    ∙ sym (walked k reached' r low high X' Y' X-is.x' X-is.xs' Y-is.x' Y-is.xs' X-is.also_members Y-is.also_members w right'))

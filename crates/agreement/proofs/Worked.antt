@@ -14,40 +14,40 @@ use Rattle.history.specs.declared.Stage.{Stage}
 use Rattle.history.specs.History.{History, Operations, idle, no_operations, with_operation, named, members_of}
 use Rattle.history.specs.Calls.{Call, next_history}
 use Rattle.history.specs.Answers.{OrderOf}
-use Rattle.history.specs.Lawful.{Lawful}
 use Rattle.history.proofs.Lawful.{histories_lawful}
+use Rattle.history.proofs.Members.{histories_hold}
 use Rattle.history.proofs.Named.{named-low}
 use Rattle.relating.specs.Walks.{walk, Related}
 use Rattle.relating.proofs.Related.{walks_related}
-use Rattle.agreement.specs.Agreement.{RelationOf}
+use Rattle.agreement.specs.Agreement.{Reached, RelationOf}
 use Rattle.agreement.specs.Worked.{history_after, place, setup, pick, rest, arrivals, gatherings, rearrivals, traced, whole, rearrived, JobAnswers, WorkedAnswers}
 use Rattle.agreement.proofs.Columns.{only_nodes}
 
-lawful-after : (h : History) → Lawful h → (cs : List Call) → Lawful (history_after h cs)
-lawful-after h lawful [] = lawful
-lawful-after h lawful (c ∷ cs) = lawful-after (next_history h c) (histories_lawful.1 h c lawful) cs
+reached_after : (h : History) → Reached h → (cs : List Call) → Reached (history_after h cs)
+reached_after h reached [] = reached
+reached_after h reached (c ∷ cs) = reached_after (next_history h c) (record { lawful = histories_lawful.1 h c reached.lawful; members = histories_hold.1 h c reached.members }) cs
 
 -- ---- relations
 
 -- a walk's answer is the relation's
-by_walk : (h : History) → Lawful h → (r : ℕ) → 1 ≤ r → r ≤ 6 → (X Y : List ℕ) (x : ℕ) (xs : List ℕ) (y : ℕ) (ys : List ℕ) →
+by_walk : (h : History) → Reached h → (r : ℕ) → 1 ≤ r → r ≤ 6 → (X Y : List ℕ) (x : ℕ) (xs : List ℕ) (y : ℕ) (ys : List ℕ) →
     members_of h X ≡ Some (x ∷ xs) → members_of h Y ≡ Some (y ∷ ys) → (a : Bool × ℕ) → walk r h.events h.nodes x xs y ys ≡ a → RelationOf h r X Y a
-by_walk h lawful r low high X Y x xs y ys ex ey a e x₁ xs₁ y₁ ys₁ ex₁ ey₁ =
+by_walk h reached r low high X Y x xs y ys ex ey a e x₁ xs₁ y₁ ys₁ ex₁ ey₁ =
     let x-is : x ≡ x₁ = cc in
     let xs-is : xs ≡ xs₁ = cc in
     let y-is : y ≡ y₁ = cc in
     let ys-is : ys ≡ ys₁ = cc in
-    let right = walks_related h.events (accepted_is_orderly h.events lawful.accepted) h.nodes (only_nodes h lawful) x xs y ys
-    (lawful.members X (x ∷ xs) ex).held (lawful.members Y (y ∷ ys) ey).held r low high in
+    let right = walks_related h.events (accepted_is_orderly h.events reached.lawful.accepted) h.nodes (only_nodes h reached) x xs y ys
+    (reached.members X (x ∷ xs) ex).held (reached.members Y (y ∷ ys) ey).held r low high in
     rw (← x-is, ← xs-is, ← y-is, ← ys-is) (subst (Related r h.events h.nodes x xs y ys) e right)
 
 -- ---- orders
 
-module _ (h : History) (lawful : Lawful h) where
+module _ (h : History) (reached : Reached h) where
   apart : (p q : Place) (x y : ℕ) → named h p ≡ Some x → named h q ≡ Some y → past (forward h.events) y x ≡ false → past (forward h.events) x y ≡ false →
       OrderOf h p q CausalOrder.Concurrent
   apart p q x y ex ey f g x₁ y₁ ex₁ ey₁ =
-      let orderly = accepted_is_orderly h.events lawful.accepted in
+      let orderly = accepted_is_orderly h.events reached.lawful.accepted in
       let lx = named-low h p x ex in
       let ly = named-low h q y ey in
       let x-is : x ≡ x₁ = cc in
@@ -62,7 +62,7 @@ module _ (h : History) (lawful : Lawful h) where
 
   together : (p q : Place) (x : ℕ) → named h p ≡ Some x → named h q ≡ Some x → OrderOf h p q CausalOrder.Same
   together p q x ex ey x₁ y₁ ex₁ ey₁ =
-      let orderly = accepted_is_orderly h.events lawful.accepted in
+      let orderly = accepted_is_orderly h.events reached.lawful.accepted in
       let one : x₁ ≡ y₁ = cc in
       record {
         before = ((λ e. let z : ◌≡◌ {A = ℕ} 0 1 = cc in absurd (omega arith)), λ c. let l = before_rises h.events orderly x₁ y₁ c in absurd (omega arith));
@@ -123,8 +123,8 @@ rearrived-is =
     led idle rearrivals (growing other-worked ++ gathering other-worked 2 0 4 7)
     (refl, (refl, (refl, (refl, (refl, (refl, (refl, (refl, (refl, (refl, (refl, (refl, (refl, tt)))))))))))))
 
-whole-lawful : Lawful (full worked 1 2 4 6)
-whole-lawful = subst Lawful whole_is (lawful-after traced (lawful-after idle histories_lawful.0 arrivals) (Call.receive 3 7 ∷ gatherings))
+whole-reached : Reached (full worked 1 2 4 6)
+whole-reached = subst Reached whole_is (reached_after traced (reached_after idle (record { lawful = histories_lawful.0; members = histories_hold.0 }) arrivals) (Call.receive 3 7 ∷ gatherings))
 
 -- ---- what they answer
 
@@ -137,7 +137,7 @@ columns_equal (suc (suc (suc (suc i)))) l m = absurd (omega arith)
 
 related : (r : ℕ) → 1 ≤ r → r ≤ 6 → (X Y : List ℕ) (x : ℕ) (xs : List ℕ) (y : ℕ) (ys : List ℕ) → members_of (full worked 1 2 4 6) X ≡ Some (x ∷ xs) → members_of (full worked 1 2 4 6) Y ≡ Some (y ∷ ys) →
     (a : Bool × ℕ) → walk r worked 3 x xs y ys ≡ a → RelationOf (full worked 1 2 4 6) r X Y a
-related = by_walk (full worked 1 2 4 6) whole-lawful
+related = by_walk (full worked 1 2 4 6) whole-reached
 
 answers : JobAnswers (taking worked) (full worked 1 2 4 6) (full other-worked 2 0 4 7)
 answers = record {
@@ -156,8 +156,8 @@ answers = record {
   r2_setup_rest = (refl, related 2 (omega arith) (omega arith) setup rest 1 (2 ∷ []) 6 [] refl refl (false, 2) refl);
   r3p_setup_rest = (refl, related 5 (omega arith) (omega arith) setup rest 1 (2 ∷ []) 6 [] refl refl (true, 1) refl);
   r4_setup_setup = (refl, related 6 (omega arith) (omega arith) setup setup 1 (2 ∷ []) 1 (2 ∷ []) refl refl (true, 1) refl);
-  concurrent = (refl, apart (full worked 1 2 4 6) whole-lawful (place 1 3) (place 3 4) 6 7 refl refl refl refl);
-  one_event = (refl, together (full worked 1 2 4 6) whole-lawful (place 2 2) (place 3 3) 5 refl refl);
+  concurrent = (refl, apart (full worked 1 2 4 6) whole-reached (place 1 3) (place 3 4) 6 7 refl refl refl refl);
+  one_event = (refl, together (full worked 1 2 4 6) whole-reached (place 2 2) (place 3 3) 5 refl refl);
   columns = record {
     started = refl;
     also_started = refl;

@@ -1,8 +1,9 @@
-//! Cases that are run: clocks and traces, on every make of clock.
+//! Cases that are run: clocks, traces and job texts, on every make of clock.
 #![tactic(auto)]
 
-pub mod calls;
 #[cfg(test)]
 mod clocks;
+#[cfg(test)]
+mod texts;
 #[cfg(test)]
 mod traces;

@@ -1,12 +1,38 @@
 //! Traces on the correlator: limits, the order of refusals, orders of arrival, a trace that is abandoned, timestamps.
 
-use crate::calls::{ARRIVALS, event, events, told};
 use causality::{CausalOrder, Event, Place};
 use clock::Clock;
 use correlator::Correlator;
+use history::Refusal;
 use link_clock::LinkClock;
 use row_clock::RowClock;
 use std::process::Abort;
+
+// 0 if a call was accepted, else the number of its refusal.
+fn told<T: Drop>(r: Result<T, Refusal>) -> u8 {
+    match r {
+        Ok(_) => 0,
+        Err(refusal) => refusal.number(),
+    }
+}
+
+fn event<F: Clock, R: Clock>(c: &mut Correlator<F, R>, e: Event) -> u8 {
+    match e {
+        Event::Local(a) => told(c.local(a)),
+        Event::Send(a, m) => told(c.send(a, m)),
+        Event::Receive(a, m) => told(c.receive(a, m)),
+        Event::Meet(a, b) => told(c.meet(a, b)),
+    }
+}
+
+// Each event is answered by its number.
+fn events<F: Clock, R: Clock>(c: &mut Correlator<F, R>, steps: &[(Event, u8)]) -> bool {
+    let mut all = true;
+    for s in steps {
+        all = event(c, s.0) == s.1 && all;
+    }
+    all
+}
 
 fn fill<F: Clock, R: Clock>(c: &mut Correlator<F, R>) -> bool {
     let mut all = true;
@@ -58,6 +84,40 @@ fn abandoned<F: Clock + Drop, R: Clock + Drop>(rt: &impl Abort) {
     assert!(rt; ordered(&c, 1, 1, 1, 1) == 16 && events(&mut c, &ANEW));
     assert!(rt; ordered(&c, 1, 1, 1, 1) == b's' && told(c.close()) == 0);
 }
+
+// The worked trace in three orders of arrival.
+const ARRIVALS: [[(Event, u8); 8]; 3] = [
+    [
+        (Event::Local(1), 0),
+        (Event::Send(1, 7), 0),
+        (Event::Send(2, 8), 0),
+        (Event::Receive(3, 7), 0),
+        (Event::Receive(3, 8), 0),
+        (Event::Meet(2, 3), 0),
+        (Event::Local(1), 0),
+        (Event::Local(3), 0),
+    ],
+    [
+        (Event::Send(2, 8), 0),
+        (Event::Local(1), 0),
+        (Event::Send(1, 7), 0),
+        (Event::Local(1), 0),
+        (Event::Receive(3, 7), 0),
+        (Event::Receive(3, 8), 0),
+        (Event::Meet(3, 2), 0),
+        (Event::Local(3), 0),
+    ],
+    [
+        (Event::Local(1), 0),
+        (Event::Send(1, 7), 0),
+        (Event::Receive(3, 7), 0),
+        (Event::Send(2, 8), 0),
+        (Event::Receive(3, 8), 0),
+        (Event::Meet(2, 3), 0),
+        (Event::Local(3), 0),
+        (Event::Local(1), 0),
+    ],
+];
 
 // How i.k stands to j.l, or the number of the refusal.
 fn ordered<F: Clock, R: Clock>(c: &Correlator<F, R>, i: u16, k: u16, j: u16, l: u16) -> u8 {

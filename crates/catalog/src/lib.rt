@@ -1,7 +1,7 @@
 //! Operations by their names: looking one up, and whether one of a new name may be added.
 #![tactic(auto)]
 
-ghost use Rattle.std.specs.Prelude.{◌≡◌, ◌<◌, true, IfOk, Some, None, MatchOption, OnOk};
+ghost use Rattle.std.specs.Prelude.{◌≡◌, ◌<◌, false, true, IfOk, Some, None, MatchOption, OnOk};
 ghost use Rattle.catalog.specs.Catalog.{kept_members, new_tests};
 ghost use Rattle.history.specs.Answers.{reason};
 ghost use Rattle.history.specs.Calls.{first_that};
@@ -17,8 +17,8 @@ use records::{MAX_OPERATIONS, Operation, Operations};
 pub fn operation_named<'a>(table: &'a Operations, name: &[u8]) -> Option<&'a Operation>
     ensures { MatchOption result (kept_members table.now name.now ≡ None) (λ o. (is_name name.now ≡ true) × (operation_of table.now (packed name.now) ≡ Some o.now)) }
 {
-    match pack(name) {
-        Some(key) => match table.get(key) {
+    match key_of(name) {
+        Some(key) => match table.get_ref(key) {
             Some(operation) => Some(operation),
             None => None,
         },
@@ -33,10 +33,10 @@ pub fn check_new(table: &Operations, name: &[u8]) -> Result<u64, Refusal>
     ensures room { OnOk result (table.now.len < 32) }
     ensures fresh { IfOk result (λ k. operation_of table.now k ≡ None) }
 {
-    let Some(key) = pack(name) else {
+    let Some(key) = key_of(name) else {
         return Err(Refusal::BadName);
     };
-    match table.get(key) {
+    match table.get_ref(key) {
         Some(_) => return Err(Refusal::NameTaken),
         None => {}
     }
@@ -44,4 +44,11 @@ pub fn check_new(table: &Operations, name: &[u8]) -> Result<u64, Refusal>
         return Err(Refusal::OperationsFull);
     }
     Ok(key)
+}
+
+// A name as a number; none of what is no name.
+fn key_of(name: &[u8]) -> Option<u64>
+    ensures { MatchOption result (is_name name.now ≡ false) (λ k. (is_name name.now ≡ true) × (k ≡ packed name.now)) }
+{
+    pack(name)
 }

@@ -1,35 +1,48 @@
 -- What an accepted event does to the forward clock and to the history, whatever its kind.
-use Rattle.std.proofs.Common.{◌≡◌, ℕ, suc, true, false, cond, ◌&&◌, ltb, ◌∷◌, length, None, Ok, Option, sym, refl, ap, ◌∙◌, subst, arith}
+use Rattle.std.proofs.Common.{◌≡◌, ℕ, suc, ◌<◌, Bool, true, false, cond, ◌&&◌, ltb, List, [], ◌∷◌, length, Some, None, Ok, Option, sym, refl, ap, ◌∙◌, subst, inl, arith}
 use Rattle.std.specs.Option.{option_to_list}
-use Rattle.std.proofs.lemmas.Bool.{cond-true, and_from, or_left, lt-ltb, leb-false, eq-eqb}
+use Rattle.std.proofs.lemmas.Bool.{cond-true, and_from, not_from_false, or_left, lt-ltb, leb-false, eq-eqb}
+use Rattle.clock.specs.declared.Clock.{Ghosts}
 use Rattle.causality.specs.declared.Event.{Event}
 use Rattle.causality.specs.declared.Place.{Place}
 use Rattle.causality.specs.Limits.{is_node}
-use Rattle.causality.specs.Newest.{numbers}
+use Rattle.causality.specs.Newest.{numbers, Mem}
 use Rattle.causality.specs.Entries.{Entry, stamp}
-use Rattle.causality.specs.Traces.{node_of, partner_of, from, stands, forward}
+use Rattle.causality.specs.Traces.{node_of, partner_of, from, stands, entries, forward}
 use Rattle.causality.specs.Columns.{next_index}
-use Rattle.causality.proofs.Newest.{nothing, length-picked}
+use Rattle.causality.proofs.Newest.{numbers-low, length-picked}
 use Rattle.causality.proofs.Counts.{stamps_grow}
 use Rattle.causality.proofs.Traces.{length-entries, timeline-events}
-use Rattle.clock.specs.Meaning.{Meaning, taken, counted}
-use Rattle.clock.proofs.Takes.{meanings_answer}
+use Rattle.clock.specs.Meaning.{Meaning, if_given, taken, counted}
+use Rattle.clock.specs.Takes.{meaning}
+use Rattle.clock.proofs.Takes.{meanings_grow, meanings_answer, length-entries as length_held}
 use Rattle.history.specs.declared.refusal.Refusal.{Refusal}
 use Rattle.history.specs.History.{History, is_closed, is_none}
 use Rattle.history.specs.Calls.{Call, refusal, after, with_event}
 use Rattle.history.specs.Answers.{Obeys, next_place}
-use Rattle.history.specs.Lawful.{Lawful}
+use Rattle.history.specs.Lawful.{Fits, Lawful}
 use Rattle.history.proofs.Lawful.{May, may_lawful}
 use Rattle.correlator.specs.declared.state.Correlator.{Correlator}
-use Rattle.records.specs.declared.operations.Operations.{Operations as Table}
 use Rattle.records.specs.Messages.{sent_of}
-use Rattle.feeding.specs.Posted.{posted}
-use Rattle.feeding.proofs.Taking.{taken-entry}
+use Rattle.correlator.specs.Posted.{posted}
 use Rattle.counting.specs.Counting.{or_zero}
 use Rattle.correlator.specs.State.{history, fed, fed_back, Sound, Appended}
-use Rattle.catalog.proofs.Keeping.{no_operation}
 use Rattle.correlator.proofs.Kept.{kept-length}
-use Rattle.clock.specs.declared.Clock.{Ghosts}
+
+held_low : (p : Event → Bool) (vs : List Event) (m : Option ℕ) → option_to_list m ≡ numbers p vs → if_given (λ e. ltb e (length vs)) m ≡ true
+held_low p vs None e = refl
+held_low p vs (Some x) e = lt-ltb x (length vs) (numbers-low p vs x (subst (Mem x) e (inl refl)))
+
+-- a clock that took some events of a trace, in whatever direction, accepts the next one
+pub taken-entry : (n : ℕ) (goes : Event → Event → Bool) (v : Event) (vs : List Event) (m : Option ℕ) → Fits n v → length vs < 512 → option_to_list m ≡ numbers (goes v) vs →
+    taken (meaning n (entries goes vs)) (node_of v) (partner_of v) m ≡ meaning n (entries goes (v ∷ vs))
+taken-entry n goes v vs m fits room priors =
+    let long = length_held (entries goes vs) ∙ length-entries goes vs in
+    let low = held_low (goes v) vs m priors in
+    (meanings_grow n (entries goes vs) (node_of v) (partner_of v) m
+    (and_from _ _ (lt-ltb _ 512 (omega (arith, long, room)))
+    (and_from _ _ fits.here (and_from _ _ fits.there (and_from _ _ (not_from_false _ fits.apart) (rw long low)))))).0
+    ∙ ap (λ (ps : List ℕ). meaning n (record { node = node_of v; partner = partner_of v; priors = ps } ∷ entries goes vs)) priors
 
 module _ (h : History) (v : Event) (may : May h v) where
   takes_it : (m : Option ℕ) → option_to_list m ≡ numbers (from v) h.events → taken (fed h) (node_of v) (partner_of v) m ≡ fed (with_event h v)
@@ -62,13 +75,12 @@ obeyed h h' k x Right free leaves right =
 module _ {X Y : Type 0} {F : Ghosts X} {R : Ghosts Y} (f : X → Meaning) (r : Y → Meaning) (c c₁ c' : Correlator X Y F R) (v : Event) (m : Option ℕ) (p : Place) (k : Call) where
   pub event_done : Sound f r c → Appended f c c₁ v m p → May (history c) v → is_closed c.stage ≡ false → option_to_list m ≡ numbers (from v) (history c).events →
       refusal (history c) k ≡ None → after (history c) k ≡ with_event (history c) v →
-      c'.forward ≡ c₁.forward → c'.reverse ≡ c₁.reverse → c'.operations ≡ c₁.operations → history c' ≡ history c₁ → ((j : ℕ) → sent_of c'.sent j ≡ posted (v ∷ (history c).events) j) →
+      c'.forward ≡ c₁.forward → c'.reverse ≡ c₁.reverse → history c' ≡ history c₁ → ((j : ℕ) → sent_of c'.sent j ≡ posted (v ∷ (history c).events) j) →
       Sound f r c' × Obeys (history c) k (Ok p) (λ q. q ≡ next_place (history c) (node_of v)) (history c')
-  event_done sound done may unclosed priors free leaves ahead back table same posts =
+  event_done sound done may unclosed priors free leaves ahead back same posts =
       let h = history c in
       let took : f c₁.forward ≡ fed (with_event h v) = done.fed_on ∙ ap (λ (x : Meaning). taken x (node_of v) (partner_of v) m) sound.ahead ∙ takes_it h v may m priors in
       let grown : history c' ≡ with_event h v = same ∙ done.grown in
-      let empty : c'.operations.len ≡ 0 = ap (λ (t : Table). t.len) (table ∙ done.kept) ∙ sound.none unclosed in
       let number = sym (kept-length c.len c.events c.long c.within) in
       let index = ap (λ (x : Meaning). or_zero (counted x c.len (node_of v))) took ∙ ap (λ (n : ℕ). or_zero (counted (fed (with_event h v)) n (node_of v))) number ∙ new_index h v may in (
         record {
@@ -76,8 +88,11 @@ module _ {X Y : Type 0} {F : Ghosts X} {R : Ghosts Y} (f : X → Meaning) (r : Y
           back = ap r (back ∙ done.back) ∙ sound.back ∙ still h v unclosed ∙ ap fed_back (sym grown);
           lawful = subst Lawful (sym grown) (may_lawful h v sound.lawful may);
           posts = λ j. posts j ∙ ap (λ (x : History). posted x.events j) (sym grown);
-          none = λ _. empty;
-          rows = λ name o e. absurd (nothing (sym (no_operation c'.operations empty name) ∙ e));
         },
         obeyed h (history c') k p (λ q. q ≡ next_place h (node_of v)) free (grown ∙ sym leaves) (done.place ∙ ap (λ (n : ℕ). record { node = node_of v; index = n }) index),
       )
+
+-- an event that receives nothing follows no other by a message
+pub numbers_never : (vs : List Event) → numbers (λ w. false) vs ≡ []
+numbers_never [] = refl
+numbers_never (v ∷ vs) = numbers_never vs

@@ -1,6 +1,5 @@
 pub mod Kept
-pub mod Refusing
+pub mod Posts
 pub mod Events
 pub mod Questions
-pub mod Starting
-pub mod Operating
+pub mod Backs

@@ -3,14 +3,17 @@ use Rattle.std.proofs.Common.{◌≡◌, ℕ, ◌-◌, ◌<◌, ◌≤◌, Bool,
 use Rattle.std.proofs.lemmas.List.{length-reverse}
 use Rattle.std.proofs.lemmas.Bool.{cases_Bool, cond-true, cond-false, ne_eqb, and_from, and_cases, or_cases, not-false, lt-ltb, leb-true, le-leb, eqb-true, eqb-false, eq-eqb, both_ways}
 use Rattle.causality.specs.declared.CausalOrder.{CausalOrder}
+use Rattle.clock.specs.declared.Clock.{Ghosts}
 use Rattle.causality.specs.declared.Event.{Event}
 use Rattle.causality.specs.declared.Place.{Place}
 use Rattle.causality.specs.Limits.{is_node}
 use Rattle.causality.specs.Newest.{kth}
-use Rattle.causality.specs.Traces.{from, into, Before, Orderly, forward, backward, mirror}
+use Rattle.causality.specs.Traces.{from, into, events_at, Before, Orderly, forward, backward, mirror}
 use Rattle.causality.specs.Relations.{To, fore}
+use Rattle.causality.proofs.Newest.{nothing}
 use Rattle.causality.proofs.Counts.{stamps_tell}
 use Rattle.causality.proofs.Traces.{length-entries, timeline-events, past_is_before, before_rises, accepted_is_orderly}
+use Rattle.causality.proofs.Columns.{place-low}
 use Rattle.clock.specs.Meaning.{Meaning, counted}
 use Rattle.clock.specs.Takes.{meaning}
 use Rattle.clock.proofs.Takes.{meanings_answer}
@@ -20,14 +23,12 @@ use Rattle.history.specs.History.{History, is_idle, is_open, is_closed, is_none,
 use Rattle.history.specs.Calls.{Call, first_that, refusals, refusal}
 use Rattle.history.specs.Answers.{Compared, OrderOf, with_row, stamp_number, stamp_if, stamped}
 use Rattle.history.specs.Lawful.{Lawful}
-use Rattle.history.proofs.Named.{named-place, named-low}
 use Rattle.history.proofs.Passed.{passed}
 use Rattle.correlator.specs.declared.state.Correlator.{Correlator}
-use Rattle.counting.specs.Counting.{or_zero, found_at}
+use Rattle.counting.specs.Counting.{or_zero}
 use Rattle.counting.proofs.Rows.{row_like}
-use Rattle.correlator.specs.State.{history, fed, Sound, counts, choose, order_tests, stamp_tests}
+use Rattle.correlator.specs.State.{history, fed, Sound, found_at, counts, choose, order_tests, stamp_tests}
 use Rattle.correlator.proofs.Kept.{kept-length}
-use Rattle.clock.specs.declared.Clock.{Ghosts}
 
 -- ---- what the forward clock tells of a place
 
@@ -36,6 +37,12 @@ module _ (h : History) where
   found-named p =
       (meanings_answer h.nodes (forward h.events) 0 p.node p.index).1
       ∙ ap (λ (c : List ℕ). cond (is_node h.nodes p.node) (kth c p.index) None) (timeline-events from h.events p.node)
+
+  named-place : (p : Place) (x : ℕ) → named h p ≡ Some x → (is_node h.nodes p.node ≡ true) × (kth (events_at h.events p.node) p.index ≡ Some x)
+  named-place p x e = elim (cases_Bool (is_node h.nodes p.node)) [ inl s ↦ (s, rw s at e) | inr s ↦ absurd (nothing (rw s at e)) ]
+
+  pub named-low : (p : Place) (x : ℕ) → named h p ≡ Some x → x < length h.events
+  named-low p x e = place-low h.events p.node p.index x (named-place p x e).1
 
   -- a count is a timestamp
   pub counted-fore : (e i : ℕ) → e < length h.events → is_node h.nodes i ≡ true → or_zero (counted (fed h) e i) ≡ fore h.events e i
@@ -46,10 +53,10 @@ module _ (h : History) where
   pub counts_decide : Lawful h → (p : Place) (x y : ℕ) → named h p ≡ Some x → y < length h.events → Decides (counts (fed h) p y) (To h.events x y)
   counts_decide lawful p x y e low =
       let vs = h.events in
-      let (node, place) = named-place h p x e in
+      let (node, place) = named-place p x e in
       let count = counted-fore y p.node low node in
       let tell = stamps_tell (forward vs) y p.node p.index x (rw (timeline-events from vs p.node) place) in
-      let to = past_is_before vs (accepted_is_orderly vs lawful.accepted) x y (named-low h p x e) low in (
+      let to = past_is_before vs (accepted_is_orderly vs lawful.accepted) x y (named-low p x e) low in (
         (λ c. to.0 (tell.1 (omega (arith, count, leb-true _ _ c)))),
         λ t. le-leb _ _ (omega (arith, count, tell.0 (to.1 t))),
       )
@@ -111,7 +118,7 @@ module _ (vs : List Event) (orderly : Orderly vs) (x y : ℕ) where
 
 -- ---- a sound correlator's questions
 
-pub node_in : (n i : ℕ) → 1 ≤ i → i ≤ n → is_node n i ≡ true
+node_in : (n i : ℕ) → 1 ≤ i → i ≤ n → is_node n i ≡ true
 node_in n i low high = and_from _ _ (le-leb 1 i low) (le-leb i n high)
 
 module _ {X Y : Type 0} {F : Ghosts X} {R : Ghosts Y} (f : X → Meaning) (r : Y → Meaning) (c : Correlator X Y F R) (sound : Sound f r c) where
@@ -172,15 +179,14 @@ module _ {X Y : Type 0} {F : Ghosts X} {R : Ghosts Y} (f : X → Meaning) (r : Y
       ∙ ap or_zero ((meanings_answer c.nodes (backward vs) (mirror vs x) i 0).0 ∙ cond-true _ _ _ (and_from _ _ held node))
       ∙ sym (cond-false _ _ _ (ne_eqb d 1 not-one))
 
--- a trace that is neither idle nor open is closed
-pub ended : (s : Stage) → is_idle s ≡ false → is_open s ≡ false → is_closed s ≡ true
-ended Stage.Idle e f = sym e
-ended Stage.Open e f = sym f
-ended Stage.Closed e f = refl
-
 -- a reverse timestamp is given only of a closed trace
 pub reverse_closed : (h : History) (p : Place) (d len : ℕ) → refusal h (Call.stamp p d len) ≡ None → (d ≡ 1 → ⊥) → is_closed h.stage ≡ true
 reverse_closed h p d len free not-one =
     let (idle, (selector, (waits, _))) = passed (refusals h (Call.stamp p d len)) free in
     let two : eqb d 2 ≡ true = elim (or_cases (eqb d 1) (eqb d 2) (not-false _ selector)) [ inl e ↦ absurd (not-one (eqb-true d 1 e)) | inr e ↦ e ] in
     ended h.stage idle (elim (and_cases (eqb d 2) (is_open h.stage) waits) [ inl e ↦ absurd (both_ways (eqb d 2) e two) | inr e ↦ e ])
+  where
+    ended : (s : Stage) → is_idle s ≡ false → is_open s ≡ false → is_closed s ≡ true
+    ended Stage.Idle e f = sym e
+    ended Stage.Open e f = sym f
+    ended Stage.Closed e f = refl

@@ -5,12 +5,11 @@ ghost use Rattle.std.specs.Prelude.{◌≡◌, ◌≤◌, length};
 use causality::Event;
 use clock::Clock;
 use history::Stage;
-use records::{Messages, Operations};
+use records::Messages;
 
 pub mod checks;
 pub mod closing;
 pub mod events;
-pub mod operations;
 pub mod questions;
 
 /// The length of the array of events.
@@ -26,9 +25,7 @@ pub struct Correlator<F: Clock, R: Clock> {
     len: u16,
     events: [Event; EVENTS],
     sent: Messages,
-    operations: Operations,
     ghost long: { length events ≡ 512 },
     ghost within: { len ≤ 512 },
     ghost fewer: { sent.len ≤ len },
-    ghost few: { nodes ≤ 16 },
 }

@@ -1,13 +1,14 @@
--- Rows joined number by number, at one node, and the number of a row at a node.
-use Rattle.std.proofs.Common.{◌≡◌, ℕ, zero, suc, ◌<◌, List, [], ◌∷◌, ◌++◌, map, length, get_or, fold, sym, refl, ap, ◌∙◌, inl, inr, arith}
+-- Rows joined number by number, at one node.
+use Rattle.std.proofs.Common.{◌≡◌, ℕ, zero, suc, ◌<◌, List, [], ◌∷◌, ◌++◌, map, length, get_or, fold, Option, sym, refl, ap, ◌∙◌, inl, inr, arith}
 use Rattle.std.proofs.lemmas.Bool.{cases_eq}
 use Rattle.causality.specs.Relations.{joined}
+use Rattle.clock.specs.Meaning.{Meaning, counted}
 use Rattle.gathering.specs.declared.Row.{Row}
 use Rattle.gathering.specs.Gathering.{joined_all, zipped}
 use Rattle.gathering.proofs.Folds.{folded_out}
 use Rattle.gathering.specs.Zips.{zipped_assoc, length-zipped, get_or-zipped}
 use Rattle.history.specs.Answers.{row}
-use Rattle.counting.specs.Counting.{or_zeros, Joint}
+use Rattle.counting.specs.Counting.{or_zero, or_zeros, count_row, Joint, JointRow}
 use Rattle.counting.proofs.Rows.{length-row}
 
 get_or-left : (xs ys : List ℕ) (i : ℕ) → i < length xs → get_or (xs ++ ys) i 0 ≡ get_or xs i 0
@@ -49,6 +50,20 @@ module _ (f : ℕ → ℕ → ℕ) (associative : (x y z : ℕ) → f (f x y) z 
         ∙ get_or-zipped f (of x).counts (fold op (of u) (map of us)).counts i 0 (omega (arith, long x)) (omega (arith, long-joined u us))
         ∙ ap (f (get_or (of x).counts i 0)) (at_place u us i l)
 
-    pub joint : (es : List ℕ) (r : Row) → r ≡ or_zeros (joined_all op (map of es)) → Joint f of es r
-    joint [] r e = tt
-    joint (x ∷ xs) r e = λ i l. ap (λ (q : Row). get_or q.counts i 0) e ∙ at_place x xs i l
+    pub joint_rows : (es : List ℕ) (r : Row) → r ≡ or_zeros (joined_all op (map of es)) → JointRow f of es r
+    joint_rows [] r e = tt
+    joint_rows (x ∷ xs) r e = λ i l. ap (λ (q : Row). get_or q.counts i 0) e ∙ at_place x xs i l
+
+  joined_like : (g h : ℕ → ℕ) → ((u : ℕ) → g u ≡ h u) → (x : ℕ) (xs : List ℕ) → joined f g x xs ≡ joined f h x xs
+  joined_like g h e x [] = e x
+  joined_like g h e x (u ∷ us) = rw (e x, joined_like g h e u us)
+
+  pub joint : (μ : Meaning) (es : List ℕ) (r : Option Row) → r ≡ joined_all op (map (count_row μ) es) → Joint f μ es r
+  joint μ [] r e = e
+  joint μ (x ∷ xs) r e = (
+    fold op (count_row μ x) (map (count_row μ) xs),
+    e,
+    λ i l.
+        at_place (count_row μ) (λ u. length-row (λ j. or_zero (counted μ u j)) 16) x xs i l
+        ∙ joined_like (λ u. get_or (count_row μ u).counts i 0) (λ u. or_zero (counted μ u (suc i))) (λ u. get_or-row (λ j. or_zero (counted μ u j)) 16 i l) x xs,
+  )

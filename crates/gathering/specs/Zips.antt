@@ -1,4 +1,4 @@
--- Lists joined place by place, and a loop that joins in place.
+-- Lists joined place by place, and a loop that joins in place: lemmas, which the laws of the joinings of rows cite. Nothing here is to be believed.
 use Rattle.std.specs.Prelude.{◌≡◌, ℕ, zero, suc, ◌+◌, ◌<◌, ◌≤◌, min, List, [], ◌∷◌, ◌++◌, length, take, drop, slice_index, slice_index_or, slice_set, refl}
 use Rattle.std.proofs.Common.{ap, arith, add-one}
 use Rattle.std.proofs.lemmas.List.{append-nil, take_all, drop_all}

@@ -1,8 +1,8 @@
 //! Gathering: one text that joins all elements of a slice, for any associative joining.
 #![tactic(auto)]
 
-ghost use Rattle.std.specs.Prelude.{◌≡◌, min, max, ◌++◌};
-ghost use Rattle.gathering.specs.Gathering.{earliest, joined_all, zipped};
+ghost use Rattle.std.specs.Prelude.{◌≡◌, ℕ, ◌<◌, min, max, ◌++◌, length, MatchOption, slice_index};
+ghost use Rattle.gathering.specs.Gathering.{Highest, Lowest, earliest, joined_all, zipped};
 ghost use Rattle.std.proofs.Common.{ap, rules, arith};
 ghost use Rattle.gathering.specs.Absent.{earliest_associative};
 ghost use Rattle.gathering.specs.Zips.{zipped_assoc};
@@ -137,5 +137,25 @@ impl Joining<Row> for Earliest {
 
     fn join(a: Row, b: Row) -> Row {
         each_place::<Earliest>(a, b)
+    }
+}
+
+/// The least of some rows, number by number; none of no rows.
+pub fn least_row(rows: &[Row]) -> Option<Row>
+    ensures { MatchOption result (length rows.now ≡ 0) (λ row. (k : ℕ) → k < 16 → Lowest (λ (x : Row). slice_index x.counts k) rows.now (slice_index row.counts k)) }
+{
+    match gather::<Row, Least>(rows) {
+        None => None,
+        Some(all) => Some(all),
+    }
+}
+
+/// The greatest of some rows, number by number; none of no rows.
+pub fn greatest_row(rows: &[Row]) -> Option<Row>
+    ensures { MatchOption result (length rows.now ≡ 0) (λ row. (k : ℕ) → k < 16 → Highest (λ (x : Row). slice_index x.counts k) rows.now (slice_index row.counts k)) }
+{
+    match gather::<Row, Greatest>(rows) {
+        None => None,
+        Some(all) => Some(all),
     }
 }

@@ -1,16 +1,14 @@
 -- Calls keep a history lawful.
-use Rattle.std.proofs.Common.{◌≡◌, ℕ, suc, ◌<◌, ◌≤◌, true, false, leb, List, [], ◌∷◌, length, Some, None, Option, sym, refl, subst, inl, inr, arith}
-use Rattle.std.specs.List.{AllByRecursion}
-use Rattle.std.proofs.lemmas.Bool.{not-false, and_parts, cases_Bool, leb-true, leb-false, ne_eqb, eqb-false}
+use Rattle.std.proofs.Common.{◌≡◌, ℕ, true, false, length, Some, None, Option, sym, refl, subst, arith}
+use Rattle.std.proofs.lemmas.Bool.{not-false, and_parts, leb-false, ne_eqb, eqb-false}
 use Rattle.causality.specs.declared.Event.{Event}
 use Rattle.causality.specs.Limits.{is_node}
 use Rattle.causality.specs.Traces.{sends, receives, was_sent}
 use Rattle.causality.proofs.Newest.{nothing}
 use Rattle.history.specs.declared.refusal.Refusal.{Refusal}
-use Rattle.history.specs.History.{History, is_full, was_received, same_name, named, gathered}
+use Rattle.history.specs.History.{History, is_full, was_received}
 use Rattle.history.specs.Calls.{Call, refusals, refusal, with_event, after, next_history}
-use Rattle.history.specs.Lawful.{Fits, Members, Lawful, HistoriesLawful}
-use Rattle.history.proofs.Named.{gathered-members}
+use Rattle.history.specs.Lawful.{Fits, Lawful, HistoriesLawful}
 use Rattle.history.proofs.Passed.{passed}
 
 -- event v may come next
@@ -21,11 +19,6 @@ pub record May (h : History) (v : Event) : Type 0 where
   pub unreceived : (m : ℕ) → receives v ≡ Some m → was_received h.events m ≡ false
   pub room : is_full h.events ≡ false
 
--- members of a trace are members of a longer one
-all_longer : (n m : ℕ) (xs : List ℕ) → n ≤ m → AllByRecursion (λ u. u < n) xs → AllByRecursion (λ u. u < m) xs
-all_longer n m [] l h = tt
-all_longer n m (x ∷ xs) l (h, hs) = (omega arith, all_longer n m xs l hs)
-
 pub may_lawful : (h : History) (v : Event) → Lawful h → May h v → Lawful (with_event h v)
 may_lawful h v lawful may = record {
   fits = (may.fits, lawful.fits);
@@ -33,9 +26,6 @@ may_lawful h v lawful may = record {
   once = (may.unreceived, lawful.once);
   few = omega (arith, leb-false 512 (length h.events) may.room);
   nodes = lawful.nodes;
-  members = λ name xs e.
-      let real = lawful.members name xs e in
-      record { some = real.some; held = all_longer (length h.events) (suc (length h.events)) xs (omega arith) real.held };
 }
 
 module _ (h : History) where
@@ -88,28 +78,13 @@ module _ (h : History) where
 module _ (h : History) (lawful : Lawful h) where
   after-lawful : (c : Call) → refusal h c ≡ None → Lawful (after h c)
   after-lawful (Call.start n) free =
-      record { fits = tt; accepted = tt; once = tt; few = omega arith; nodes = not-false _ (passed (refusals h (Call.start n)) free).0; members = λ name xs e. absurd (nothing e) }
+      record { fits = tt; accepted = tt; once = tt; few = omega arith; nodes = not-false _ (passed (refusals h (Call.start n)) free).0 }
   after-lawful (Call.local a) free = may_lawful h (Event.Local a) lawful (may_local h a free)
   after-lawful (Call.send a m) free = may_lawful h (Event.Send a m) lawful (may_send h a m free)
   after-lawful (Call.receive a m) free = may_lawful h (Event.Receive a m) lawful (may_receive h a m free)
   after-lawful (Call.meet a b) free = may_lawful h (Event.Meet a b) lawful (may_meet h a b free)
-  after-lawful Call.close free = record { fits = lawful.fits; accepted = lawful.accepted; once = lawful.once; few = lawful.few; nodes = lawful.nodes; members = lawful.members }
-  after-lawful (Call.gather x ps) free =
-      let (_, (_, (_, (_, (_, (number, (named-all, _))))))) = passed (refusals h (Call.gather x ps)) free in
-      let (some, _) = and_parts (leb 1 (length ps)) (leb (length ps) 512) (not-false _ number) in
-      let new : Members h.events (gathered (named h) [] ps) = gathered-members h ps (leb-true 1 (length ps) some) named-all in
-      record {
-        fits = lawful.fits;
-        accepted = lawful.accepted;
-        once = lawful.once;
-        few = lawful.few;
-        nodes = lawful.nodes;
-        members = λ name xs e.
-            elim (cases_Bool (same_name x name)) [
-              | inl s ↦ let same : Some (gathered (named h) [] ps) ≡ Some xs = rw s at e in let is : gathered (named h) [] ps ≡ xs = cc in subst (Members h.events) is new
-              | inr s ↦ lawful.members name xs (rw s at e)
-            ];
-      }
+  after-lawful Call.close free = record { fits = lawful.fits; accepted = lawful.accepted; once = lawful.once; few = lawful.few; nodes = lawful.nodes }
+  after-lawful (Call.gather x ps) free = record { fits = lawful.fits; accepted = lawful.accepted; once = lawful.once; few = lawful.few; nodes = lawful.nodes }
   after-lawful (Call.order p q) free = lawful
   after-lawful (Call.stamp p d len) free = lawful
   after-lawful (Call.cut x w len) free = lawful
@@ -123,4 +98,4 @@ module _ (h : History) (lawful : Lawful h) where
       go (Some r) e = rw e lawful
 
 pub histories_lawful : HistoriesLawful
-histories_lawful = (record { fits = tt; accepted = tt; once = tt; few = omega arith; nodes = refl; members = λ name xs e. absurd (nothing e) }, λ h c lawful. next-lawful h lawful c)
+histories_lawful = (record { fits = tt; accepted = tt; once = tt; few = omega arith; nodes = refl }, λ h c lawful. next-lawful h lawful c)

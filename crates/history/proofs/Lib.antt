@@ -1,3 +1,4 @@
 pub mod Passed
-pub mod Named
 pub mod Lawful
+pub mod Named
+pub mod Members

@@ -5,11 +5,11 @@
 use Rattle.std.specs.Prelude.{ℕ, Bool, cond, not, ◌&&◌, ◌||◌, List, [], ◌∷◌, length, Some, None, Option, ◌==◌, nat_le, nat_lt}
 use Rattle.causality.specs.declared.Event.{Event}
 use Rattle.causality.specs.declared.Place.{Place}
-use Rattle.causality.specs.Limits.{max_nodes, is_node, is_relation}
+use Rattle.causality.specs.Limits.{max_nodes, is_node}
 use Rattle.causality.specs.Traces.{was_sent}
 use Rattle.history.specs.declared.Stage.{Stage}
 use Rattle.history.specs.declared.refusal.Refusal.{Refusal}
-use Rattle.history.specs.History.{History, no_operations, with_operation, is_idle, is_open, is_closed, is_none, was_received, was_sent_by, is_full, named, members_of, is_name, gathered, some_unnamed}
+use Rattle.history.specs.History.{History, no_operations, with_operation, is_idle, is_open, is_closed, is_none, was_received, was_sent_by, is_full, named, members_of, is_name, all_named, some_unnamed}
 
 pub data Call : Type 0 where
   -- a number of nodes
@@ -56,7 +56,7 @@ refusals h (Call.gather name places) =
     when_closed h
     ((not (is_name name), Refusal.BadName) ∷ (not (is_none (members_of h name)), Refusal.NameTaken)
     ∷ (nat_le 32 h.operations.count, Refusal.OperationsFull) ∷ (not (nat_le 1 (length places) && nat_le (length places) 512), Refusal.PlaceCount)
-    ∷ (some_unnamed (named h) places, Refusal.NoEvent) ∷ [])
+    ∷ (some_unnamed h places, Refusal.NoEvent) ∷ [])
 refusals h (Call.order p q) = (is_idle h.stage, Refusal.Idle) ∷ (is_none (named h p) || is_none (named h q), Refusal.NoEvent) ∷ []
 refusals h (Call.stamp p d len) =
     (is_idle h.stage, Refusal.Idle) ∷ (not (d == 1 || d == 2), Refusal.BadSelector) ∷ (d == 2 && is_open h.stage, Refusal.Open)
@@ -66,7 +66,7 @@ refusals h (Call.cut x w len) =
     ((is_none (members_of h x), Refusal.NoOperation) ∷ (not (nat_le 1 w && nat_le w 4), Refusal.BadSelector) ∷ (nat_lt len h.nodes, Refusal.ShortRow) ∷ [])
 refusals h (Call.relate r x y) =
     when_closed h
-    ((not (is_relation r), Refusal.BadSelector)
+    ((not (nat_le 1 r && nat_le r 6), Refusal.BadSelector)
     ∷ (is_none (members_of h x) || is_none (members_of h y), Refusal.NoOperation) ∷ [])
 
 -- the first refusal whose test holds
@@ -90,7 +90,7 @@ after h (Call.receive a m) = with_event h (Event.Receive a m)
 after h (Call.meet a b) = with_event h (Event.Meet a b)
 after h Call.close = record { stage = Stage.Closed; nodes = h.nodes; events = h.events; operations = h.operations }
 after h (Call.gather name places) =
-    record { stage = h.stage; nodes = h.nodes; events = h.events; operations = with_operation h.operations name (gathered (named h) [] places) }
+    record { stage = h.stage; nodes = h.nodes; events = h.events; operations = with_operation h.operations name (all_named h places) }
 after h (Call.order p q) = h
 after h (Call.stamp p d len) = h
 after h (Call.cut x w len) = h

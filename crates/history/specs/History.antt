@@ -2,7 +2,7 @@
 -- how many operations there are, and the member events of each by its name.
 --
 -- An event goes by its number, from 0 and the oldest. A place i.k names the k-th event of node i, if there is one.
-use Rattle.std.specs.Prelude.{ℕ, suc, Bool, true, false, cond, ◌&&◌, ◌||◌, List, [], ◌∷◌, ◌++◌, length, Some, None, Option, ◌==◌, nat_eq, nat_le}
+use Rattle.std.specs.Prelude.{ℕ, suc, Bool, true, false, cond, ◌&&◌, ◌||◌, List, [], ◌∷◌, length, Some, None, Option, ◌==◌, nat_le}
 use Rattle.causality.specs.declared.Event.{Event}
 use Rattle.causality.specs.declared.Place.{Place}
 use Rattle.causality.specs.Limits.{max_events, is_node}
@@ -89,16 +89,15 @@ all_letters (b ∷ bs) = is_letter b && all_letters bs
 abbrev pub is_name : List ℕ → Bool
 is_name bs = nat_le 1 (length bs) && (nat_le (length bs) 8 && all_letters bs)
 
--- one more member, unless it is one already
-abbrev pub with_member : List ℕ → Option ℕ → List ℕ
-with_member xs None = xs
-with_member xs (Some x) = cond (has (nat_eq x) xs) xs (xs ++ (x ∷ []))
+-- the events that places name, where each names one
+abbrev pub push_named : Option ℕ → List ℕ → List ℕ
+push_named None xs = xs
+push_named (Some x) xs = x ∷ xs
 
--- the members xs, and the events that further places name, each once; `names` tells the event that a place names
-abbrev pub gathered : (Place → Option ℕ) → List ℕ → List Place → List ℕ
-gathered names xs [] = xs
-gathered names xs (p ∷ ps) = gathered names (with_member xs (names p)) ps
+abbrev pub all_named : History → List Place → List ℕ
+all_named h [] = []
+all_named h (p ∷ ps) = push_named (named h p) (all_named h ps)
 
-abbrev pub some_unnamed : (Place → Option ℕ) → List Place → Bool
-some_unnamed names [] = false
-some_unnamed names (p ∷ ps) = is_none (names p) || some_unnamed names ps
+abbrev pub some_unnamed : History → List Place → Bool
+some_unnamed h [] = false
+some_unnamed h (p ∷ ps) = is_none (named h p) || some_unnamed h ps

@@ -1,13 +1,12 @@
 -- What holds of every history that calls leave: each event stands at nodes of the trace, at two different ones if at two; no
--- message was sent twice or received twice, and none was received unless it was sent; there are no more events than the limit;
--- an operation has at least one member, and its members are events of the trace.
-use Rattle.std.specs.Prelude.{◌≡◌, ℕ, ◌<◌, ◌≤◌, Bool, true, false, List, [], ◌∷◌, length, Some, None, Option}
+-- message was sent twice or received twice, and none was received unless it was sent; there are no more events than the limit.
+use Rattle.std.specs.Prelude.{◌≡◌, ℕ, ◌≤◌, Bool, true, false, List, [], ◌∷◌, length, Some, None, Option}
 use Rattle.std.specs.List.{AllByRecursion}
 use Rattle.causality.specs.declared.Event.{Event}
 use Rattle.causality.specs.Limits.{max_nodes, max_events, is_node}
 use Rattle.causality.specs.Entries.{is}
 use Rattle.causality.specs.Traces.{node_of, partner_of, receives, Accepted}
-use Rattle.history.specs.History.{History, idle, was_received, members_of}
+use Rattle.history.specs.History.{History, idle, was_received}
 use Rattle.history.specs.Calls.{Call, next_history}
 
 -- what is given, if anything, is a node
@@ -25,18 +24,12 @@ abbrev pub Once : List Event → Type 0
 Once [] = Unit {0}
 Once (v ∷ vs) = ((m : ℕ) → receives v ≡ Some m → was_received vs m ≡ false) × Once vs
 
--- a set of events: not empty, and all of them events of the trace
-pub record Members (vs : List Event) (xs : List ℕ) : Type 0 where
-  pub some : 0 < length xs
-  pub held : AllByRecursion (λ u. u < length vs) xs
-
 pub record Lawful (h : History) : Type 0 where
   pub fits : AllByRecursion (Fits h.nodes) h.events
   pub accepted : Accepted h.events
   pub once : Once h.events
   pub few : length h.events ≤ max_events
   pub nodes : is_node max_nodes h.nodes ≡ true
-  pub members : (name xs : List ℕ) → members_of h name ≡ Some xs → Members h.events xs
 
 abbrev pub HistoriesLawful : Type 0
 HistoriesLawful = Lawful idle × ((h : History) (c : Call) → Lawful h → Lawful (next_history h c))

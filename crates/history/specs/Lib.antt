@@ -3,3 +3,4 @@ pub mod History
 pub mod Calls
 pub mod Answers
 pub mod Lawful
+pub mod Members

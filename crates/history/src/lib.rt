@@ -5,6 +5,7 @@
 #![tactic(auto)]
 
 ghost use Rattle.history.specs.Lawful.{HistoriesLawful};
+ghost use Rattle.history.specs.Members.{HistoriesHold};
 
 pub mod refusal;
 
@@ -31,4 +32,9 @@ pub enum Stage {
 /// Whatever the calls, refused or not, each leaves a lawful history.
 pub fn histories_lawful()
     ensures { HistoriesLawful }
+{}
+
+/// Whatever the calls, refused or not, each operation has members, and they are events of the trace.
+pub fn histories_hold()
+    ensures { HistoriesHold }
 {}

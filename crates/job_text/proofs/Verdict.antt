@@ -1,8 +1,9 @@
 -- What the check says of a text determines its answer.
 use Rattle.std.proofs.Common.{◌≡◌, ℕ, ◌+◌, List, [], ◌∷◌, ◌++◌, length, Ok, Err, Result, sym, refl, ap, ◌∙◌, inl, inr, append_assoc, arith}
 use Rattle.std.specs.List.{AllByRecursion}
-use Rattle.line_forms.specs.Forms.{Form, Sound, written}
+use Rattle.line_forms.specs.Forms.{Sound, written}
 use Rattle.job_text.specs.Texts.{Begins, Breaks, Checked, Lawful, NoLine, TooMuch, line_count, spelt}
+use Rattle.line_forms.specs.declared.forms.Line.{Line}
 use Rattle.job_text.specs.declared.scan.Fault.{Fault}
 use Rattle.job_text.specs.declared.scan.Fault.TheVariants.{TooLong, Malformed}
 use Rattle.job_text.proofs.Clear.{clear-written}
@@ -11,10 +12,10 @@ use Rattle.job_text.proofs.Cuts.{same-cut}
 use Rattle.job_text.proofs.Texts.{none_tail}
 
 -- lines and what follows them, with the first line apart
-front : (l : Form) (ls : List Form) (rest : List ℕ) → spelt (l ∷ ls) ++ rest ≡ written l ++ (10 ∷ (spelt ls ++ rest))
+front : (l : Line) (ls : List Line) (rest : List ℕ) → spelt (l ∷ ls) ++ rest ≡ written l ++ (10 ∷ (spelt ls ++ rest))
 front l ls rest = append_assoc (written l) (10 ∷ spelt ls) rest
 
-count-spelt : (ls : List Form) (rest : List ℕ) → AllByRecursion Sound ls → line_count (spelt ls ++ rest) ≡ length ls + line_count rest
+count-spelt : (ls : List Line) (rest : List ℕ) → AllByRecursion Sound ls → line_count (spelt ls ++ rest) ≡ length ls + line_count rest
 count-spelt [] rest s = omega arith
 count-spelt (l ∷ ls) rest s =
     let on = count-spelt ls rest s.1 in
@@ -26,7 +27,7 @@ pub count-begins : {text rest : List ℕ} {n : ℕ} → Begins text n rest → l
 count-begins {rest = rest} h = ap line_count h.is ∙ omega (arith, count-spelt h.lines rest h.sound, h.count)
 
 -- the sound lines in front of a text are as many as they can be in one way
-align : (ls ks : List Form) (p q : List ℕ) → AllByRecursion Sound ls → AllByRecursion Sound ks → NoLine p → NoLine q → spelt ls ++ p ≡ spelt ks ++ q → (length ls ≡ length ks) × (p ≡ q)
+align : (ls ks : List Line) (p q : List ℕ) → AllByRecursion Sound ls → AllByRecursion Sound ks → NoLine p → NoLine q → spelt ls ++ p ≡ spelt ks ++ q → (length ls ≡ length ks) × (p ≡ q)
 align [] [] p q sl sk np nq e = (refl, e)
 align [] (k ∷ ks) p q sl sk np nq e = absurd (np k _ sk.0 (e ∙ front k ks q))
 align (l ∷ ls) [] p q sl sk np nq e = absurd (nq l _ sl.0 (sym e ∙ front l ls p))

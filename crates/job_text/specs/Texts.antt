@@ -1,12 +1,13 @@
 -- What the check of a text answers, in the words of the format: the text is spelt by a list of sound lines, each with its 0A.
 use Rattle.std.specs.Prelude.{◌≡◌, ℕ, ◌+◌, ◌<◌, ◌≤◌, cond, ◌⊎◌, List, [], ◌∷◌, ◌++◌, length, Ok, Err, Result, ◌==◌, ◌≢◌}
 use Rattle.std.specs.List.{AllByRecursion}
-use Rattle.line_forms.specs.Forms.{Form, Sound, written}
+use Rattle.line_forms.specs.Forms.{Sound, written}
+use Rattle.line_forms.specs.declared.forms.Line.{Line}
 use Rattle.job_text.specs.declared.scan.Fault.{Fault}
 use Rattle.job_text.specs.declared.scan.Fault.TheVariants.{TooLong, Malformed}
 
 -- the bytes of a list of lines
-abbrev pub spelt : List Form → List ℕ
+abbrev pub spelt : List Line → List ℕ
 spelt [] = []
 spelt (l ∷ ls) = written l ++ (10 ∷ spelt ls)
 
@@ -37,7 +38,7 @@ TooMuch text = (max_bytes < length text) ⊎ (max_lines < line_count text)
 
 -- n sound lines, and then rest
 pub record Begins (text : List ℕ) (n : ℕ) (rest : List ℕ) : Type 0 where
-  pub lines : List Form
+  pub lines : List Line
   pub sound : AllByRecursion Sound lines
   pub count : length lines ≡ n
   pub is : text ≡ spelt lines ++ rest
@@ -50,7 +51,7 @@ pub record Lawful (text : List ℕ) (n : ℕ) : Type 0 where
 
 -- no sound line with its 0A stands in front
 abbrev pub NoLine : List ℕ → Type 0
-NoLine rest = (l : Form) (more : List ℕ) → Sound l → rest ≢ written l ++ (10 ∷ more)
+NoLine rest = (l : Line) (more : List ℕ) → Sound l → rest ≢ written l ++ (10 ∷ more)
 
 -- line n is the first that is malformed, and the text is not too long
 pub record Breaks (text : List ℕ) (n : ℕ) : Type 0 where

@@ -1,2 +1,3 @@
-pub mod ByKind
+pub mod Reading
+pub mod Keys
 pub mod Unique

@@ -1,2 +1,3 @@
+pub mod Parts
 pub mod Forms
-pub mod Lines
+pub mod Heads

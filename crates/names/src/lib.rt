@@ -3,7 +3,7 @@
 
 ghost use Rattle.history.specs.History.{is_letter, is_name};
 ghost use Rattle.names.specs.Names.{PackingKeeps, PackingOrders, PackingTells, packed};
-ghost use Rattle.std.specs.Prelude.{◌≡◌, true, false, MatchOption};
+ghost use Rattle.std.specs.Prelude.{◌≡◌, if◌then◌else◌, Some, None};
 
 /// The fewest bytes of a name.
 const FEWEST: usize = 1;
@@ -19,7 +19,7 @@ pub fn is_letter(b: u8) -> bool
 
 /// A name as one number of eight bytes, first byte highest, padded at the end with zeros; none of what is no name.
 pub fn pack(name: &[u8]) -> Option<u64>
-    ensures { MatchOption result (is_name name.now ≡ false) (λ k. (is_name name.now ≡ true) × (k ≡ packed name.now)) }
+    ensures { result ≡ (if is_name name.now then Some (packed name.now) else None) }
 {
     if name.len() < FEWEST || name.len() > MOST {
         return None;

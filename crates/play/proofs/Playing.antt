@@ -9,9 +9,8 @@ use Rattle.history.specs.History.{History, idle}
 use Rattle.job_text.specs.Lines.{Cut, Uncut}
 use Rattle.job_text.specs.Texts.{Lawful, spelt}
 use Rattle.job_text.proofs.Texts.{next-line, no_next}
-use Rattle.line_forms.specs.Forms.{Form, Sound}
-use Rattle.line_forms.specs.Lines.{NoForm, Reads}
-use Rattle.line_forms.specs.declared.Line.{Line}
+use Rattle.line_forms.specs.Forms.{Sound, written}
+use Rattle.line_forms.specs.declared.forms.Line.{Line}
 use Rattle.line_forms.proofs.Unique.{unique}
 use Rattle.play.specs.declared.reports.Report.{Report}
 use Rattle.play.specs.declared.text.PlayRefusal.{PlayRefusal}
@@ -21,7 +20,7 @@ use Rattle.play.specs.Reports.{Reported, call_of}
 
 -- ---- one line more
 
-plays_push : (h : History) (k : ℕ) (ls : List Form) (bs : List ℕ) (l : Form) (r : Option Report) → Plays h k ls bs → Reported (history_after h ls) l r → Plays h k (ls ++ l ∷ []) (bs ++ report_bytes (k + length ls) r)
+plays_push : (h : History) (k : ℕ) (ls : List Line) (bs : List ℕ) (l : Line) (r : Option Report) → Plays h k ls bs → Reported (history_after h ls) l r → Plays h k (ls ++ l ∷ []) (bs ++ report_bytes (k + length ls) r)
 plays_push h k [] bs l r p q = (r, [], q, ap (λ b. b ++ report_bytes (k + 0) r) p ∙ ap (λ n. report_bytes n r) (add-zero k) ∙ sym (append-nil (report_bytes k r)), refl)
 plays_push h k (m ∷ ls) bs l r p q =
     let n : k + length (m ∷ ls) ≡ (k + 1) + length ls = omega arith in (
@@ -32,18 +31,18 @@ plays_push h k (m ∷ ls) bs l r p q =
       plays_push (next_history h (call_of m)) (k + 1) ls p.1 l r p.4 q,
     )
 
-after_push : (h : History) (ls : List Form) (l : Form) → history_after h (ls ++ l ∷ []) ≡ next_history (history_after h ls) (call_of l)
+after_push : (h : History) (ls : List Line) (l : Line) → history_after h (ls ++ l ∷ []) ≡ next_history (history_after h ls) (call_of l)
 after_push h [] l = refl
 after_push h (m ∷ ls) l = after_push (next_history h (call_of m)) ls l
 
 -- nothing is written for a line that has no report
-pub wrote_none : (out : List ℕ) (at : ℕ) → at ≤ length out → Wrote out at [] out at
+wrote_none : (out : List ℕ) (at : ℕ) → at ≤ length out → Wrote out at [] out at
 wrote_none out at h = record { ends = omega arith; fits = h; long = refl; front = sym (append-nil (take at out)); behind = refl }
 
 -- ---- a text, up to a line
 
 -- the lines `done` were played, from the history h and the output `old`
-pub record Going (Good : Type 0) (h : History) (done : List Form) (old : List ℕ) (at : ℕ) (new : List ℕ) (h' : History) : Type 0 where
+pub record Going (Good : Type 0) (h : History) (done : List Line) (old : List ℕ) (at : ℕ) (new : List ℕ) (h' : History) : Type 0 where
   pub good : Good
   pub bytes : List ℕ
   pub plays : Plays h 1 done bytes
@@ -53,8 +52,8 @@ pub record Going (Good : Type 0) (h : History) (done : List Form) (old : List �
 -- k lines of the text are done, and `left` is what is left of it
 pub record Playing (Pre Good : Type 0) (text : List ℕ) (n k : ℕ) (left : List ℕ) (h : History) (old : List ℕ) (at : ℕ) (new : List ℕ) (h' : History) : Type 0 where
   pub lawful : Lawful text n
-  pub done : List Form
-  pub todo : List Form
+  pub done : List Line
+  pub todo : List Line
   pub split : lawful.all.lines ≡ done ++ todo
   pub sound : AllByRecursion Sound todo
   pub count : length done ≡ k
@@ -94,13 +93,12 @@ done_all {n = n} {h = h} {h' = h'} p none room pre =
     )
 
 -- one line more
-pub one_more : {Pre Good Good' : Type 0} {text left line left' : List ℕ} {n k : ℕ} {h h' h'' : History} {old new new' : List ℕ} {at to : ℕ} {l : Line}
-    → Playing Pre Good text n k left h old at new h' → Cut left line left' → (read : Reads line l) → to ≤ at + 32
-    → (Good → Good' × LinePlayed h' (k + 1) read.form new at new' to h'') → Playing Pre Good' text n (k + 1) left' h old to new' h''
-one_more {k = k} {h = h} p cut read room step =
-    let call = read.form in
+pub one_more : {Pre Good Good' : Type 0} {text left line left' : List ℕ} {n k : ℕ} {h h' h'' : History} {old new new' : List ℕ} {at to : ℕ} (call : Line)
+    → Playing Pre Good text n k left h old at new h' → Cut left line left' → Sound call × (line ≡ written call) → to ≤ at + 32
+    → (Good → Good' × LinePlayed h' (k + 1) call new at new' to h'') → Playing Pre Good' text n (k + 1) left' h old to new' h''
+one_more {k = k} {h = h} call p cut read room step =
     let next = next-line p.todo p.sound p.left_is cut in
-    let same : next.one ≡ call = unique next.one call next.sound.0 read.sound (sym next.line_is ∙ read.is) in
+    let same : next.one ≡ call = unique next.one call next.sound.0 read.0 (sym next.line_is ∙ read.1) in
     let more : p.todo ≡ call ∷ next.more = next.are ∙ ap (λ l. l ∷ next.more) same in
     let was = p.room in
     let counted = p.count in
@@ -142,7 +140,7 @@ no_more p end = no_next p.todo p.left_is end
 
 -- the next line is one that is read
 pub readable : {Pre Good : Type 0} {text left line left' : List ℕ} {n k : ℕ} {h h' : History} {old new : List ℕ} {at : ℕ}
-    → Playing Pre Good text n k left h old at new h' → Cut left line left' → NoForm line → ⊥
+    → Playing Pre Good text n k left h old at new h' → Cut left line left' → ((l : Line) → Sound l → line ≡ written l → ⊥) → ⊥
 readable p cut none =
     let next = next-line p.todo p.sound p.left_is cut in
     none next.one next.sound.0 next.line_is

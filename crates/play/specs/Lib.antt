@@ -1,3 +1,2 @@
 pub mod Reports
 pub mod Plays
-pub mod Once

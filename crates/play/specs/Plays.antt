@@ -14,12 +14,12 @@
 --   refusal_bytes e         the line that tells of it
 --   Correlated ..           what `correlate` writes
 use Rattle.std.specs.Prelude.{◌≡◌, ℕ, ◌+◌, ◌*◌, ◌<◌, ◌≤◌, List, [], ◌∷◌, ◌++◌, length, Some, None, Ok, Err, Option, Result}
-use Rattle.answer_lines.specs.Output.{Wrote, order_line, refused_line, refused_text, verdict_line}
+use Rattle.answer_lines.specs.Output.{Wrote, order_line, refused_line, refused_text}
 use Rattle.history.specs.Calls.{next_history}
 use Rattle.history.specs.History.{History, idle}
 use Rattle.history.specs.Refusals.{number}
 use Rattle.job_text.specs.Texts.{Breaks, Lawful, TooMuch}
-use Rattle.line_forms.specs.Forms.{Form}
+use Rattle.line_forms.specs.declared.forms.Line.{Line}
 use Rattle.play.specs.declared.reports.Report.{Report}
 use Rattle.play.specs.declared.text.PlayRefusal.{PlayRefusal}
 use Rattle.play.specs.declared.text.PlayRefusal.TheVariants.{TooLong, Malformed, ShortOut}
@@ -31,24 +31,23 @@ abbrev pub report_bytes : ℕ → Option Report → List ℕ
 report_bytes k None = []
 report_bytes k (Some (Report.Refused e)) = refused_line k (number e)
 report_bytes k (Some (Report.Ordered o)) = order_line k o
-report_bytes k (Some (Report.Related verdict steps)) = verdict_line k verdict steps
 
-abbrev pub history_after : History → List Form → History
+abbrev pub history_after : History → List Line → History
 history_after h [] = h
 history_after h (l ∷ ls) = history_after (next_history h (call_of l)) ls
 
 -- one line after another: the bytes of its report, and then those of the lines behind it
-abbrev pub Plays : History → ℕ → List Form → List ℕ → Type 0
+abbrev pub Plays : History → ℕ → List Line → List ℕ → Type 0
 Plays h k [] bs = bs ≡ []
 Plays h k (l ∷ ls) bs =
     (r : Option Report) × (rest : List ℕ) × Reported h l r × (bs ≡ report_bytes k r ++ rest) × Plays (next_history h (call_of l)) (k + 1) ls rest
 
 -- line k, found at the history h: its report is written from `at` up to `to`, and h' is the history that its call leaves
-pub record LinePlayed (h : History) (k : ℕ) (f : Form) (old : List ℕ) (at : ℕ) (new : List ℕ) (to : ℕ) (h' : History) : Type 0 where
+pub record LinePlayed (h : History) (k : ℕ) (l : Line) (old : List ℕ) (at : ℕ) (new : List ℕ) (to : ℕ) (h' : History) : Type 0 where
   pub report : Option Report
-  pub reported : Reported h f report
+  pub reported : Reported h l report
   pub wrote : Wrote old at (report_bytes k report) new to
-  pub after : h' ≡ next_history h (call_of f)
+  pub after : h' ≡ next_history h (call_of l)
 
 -- ---- texts
 

@@ -5,4 +5,4 @@ mod reports;
 mod text;
 
 pub use reports::{Report, answer};
-pub use text::{LINE_ROOM, MAX_OUTPUT, PlayRefusal, correlate, one_output, one_play, play};
+pub use text::{LINE_ROOM, MAX_OUTPUT, PlayRefusal, correlate, play};

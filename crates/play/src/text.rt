@@ -1,15 +1,12 @@
 //! The play of a whole text.
 
-ghost use Rattle.std.specs.Prelude.{◌≡◌, ℕ, ◌+◌, ◌≤◌, List, length, IfOk, Some};
+ghost use Rattle.std.specs.Prelude.{◌≡◌, ◌+◌, ◌≤◌, length, IfOk, Some};
 ghost use Rattle.answer_lines.specs.Output.{Wrote};
-ghost use Rattle.line_forms.specs.Lines.{Reads};
 ghost use Rattle.correlator.specs.State.{Sound, history};
-ghost use Rattle.play.specs.Reports.{Short};
-ghost use Rattle.play.specs.Once.{OneOutput, OnePlay};
 ghost use Rattle.play.specs.Plays.{Correlated, LinePlayed, Played, number_of, refusal_bytes, report_bytes};
 
 use crate::reports::{Report, answer};
-use answer_lines::{put_order, put_refused, put_refused_text, put_verdict};
+use answer_lines::{put_order, put_refused, put_refused_text};
 use clock::Clock;
 use correlator::Correlator;
 use job_text::{Fault, MAX_LINES, Reader, check_text};
@@ -64,14 +61,14 @@ pub fn play<F: Clock, R: Clock>(
 // Makes the call of line k, and writes what is to be reported of it from `at` on; answers the place behind it.
 fn play_line<F: Clock, R: Clock>(
     c: &mut Correlator<F, R>,
-    line: Line<'_>,
+    line: Line,
     k: u16,
     out: &mut [u8],
     at: usize,
 ) -> usize
     requires { at + 32 ≤ length out.old }
     ensures room { result ≤ at + 32 }
-    ensures played { (bs : List ℕ) (read : Reads bs line.entry) → Sound F.Clock.means R.Clock.means c.old → Sound F.Clock.means R.Clock.means c.new × LinePlayed (history c.old) k read.form out.old at out.new result (history c.new) }
+    ensures played { Sound F.Clock.means R.Clock.means c.old → Sound F.Clock.means R.Clock.means c.new × LinePlayed (history c.old) k line out.old at out.new result (history c.new) }
 {
     match answer(c, line) {
         Some(report) => write_report(out, at, k, report),
@@ -81,14 +78,13 @@ fn play_line<F: Clock, R: Clock>(
 
 // Writes the report of line k from `at` on; answers the place behind it.
 fn write_report(out: &mut [u8], at: usize, k: u16, report: Report) -> usize
-    requires { (at + 32 ≤ length out.old) × (Short report) }
+    requires { at + 32 ≤ length out.old }
     ensures wrote { Wrote out.old at (report_bytes k (Some report)) out.new result }
     ensures room { result ≤ at + 32 }
 {
     match report {
         Report::Refused(refusal) => put_refused(out, at, k, refusal.number()),
         Report::Ordered(order) => put_order(out, at, k, order),
-        Report::Related(verdict, steps) => put_verdict(out, at, k, verdict, steps),
     }
 }
 
@@ -132,13 +128,3 @@ fn put_refusal(out: &mut [u8], refusal: PlayRefusal) -> usize
         PlayRefusal::TooLong | PlayRefusal::ShortOut => put_refused_text(out, 0, number),
     }
 }
-
-/// What a play does depends on the text, the memory for the output and the history that it finds, on whatever clocks.
-pub fn one_play()
-    ensures { OnePlay }
-{}
-
-/// What `correlate` writes depends on the text alone, on whatever clocks.
-pub fn one_output()
-    ensures { OneOutput }
-{}

@@ -1,17 +1,16 @@
 -- What a run keeps, and what two runs agree on.
-use Rattle.std.proofs.Common.{◌≡◌, ℕ, zero, suc, ◌≤◌, Bool, List, [], ◌∷◌, ◌++◌, length, take, drop, IfOk, Some, Ok, Err, Result, sym, refl, ap, ◌∙◌, subst, arith}
-use Rattle.agreement.specs.Agreement.{Answered, RelationOf}
+use Rattle.std.proofs.Common.{◌≡◌, ℕ, zero, suc, ◌≤◌, List, [], ◌∷◌, ◌++◌, length, take, drop, IfOk, Some, Ok, Err, Result, sym, refl, ap, ◌∙◌, subst, arith}
+use Rattle.agreement.specs.Agreement.{Answered, Reached}
 use Rattle.agreement.proofs.Orders.{orders-agree}
-use Rattle.agreement.proofs.Relating.{relations-agree}
-use Rattle.agreement.proofs.Rows.{stamps_agree, cuts-agree}
+use Rattle.agreement.proofs.Rows.{stamps_agree}
 use Rattle.causality.specs.declared.CausalOrder.{CausalOrder}
 use Rattle.causality.proofs.Newest.{nothing}
 use Rattle.history.specs.declared.refusal.Refusal.{Refusal}
 use Rattle.history.specs.History.{History, idle}
 use Rattle.history.specs.Calls.{Call, refusal, next_history}
-use Rattle.history.specs.Answers.{reason, OrderOf, stamped, cut_row}
-use Rattle.history.specs.Lawful.{Lawful}
+use Rattle.history.specs.Answers.{reason, OrderOf, stamped}
 use Rattle.history.proofs.Lawful.{histories_lawful}
+use Rattle.history.proofs.Members.{histories_hold}
 use Rattle.promise.specs.declared.requests.Answer.{Answer}
 use Rattle.promise.specs.declared.requests.Lent.{Lent}
 use Rattle.promise.specs.declared.requests.Request.{Request}
@@ -23,12 +22,13 @@ use Rattle.promise.specs.Promise.{Kept, Agree, Promise, Both}
 
 -- ---- one run
 
-after-lawful : (h : History) (qs : List Request) → Lawful h → Lawful (history_after h qs)
-after-lawful h [] lawful = lawful
-after-lawful h (q ∷ qs) lawful = after-lawful (next_history h (call_of q)) qs (histories_lawful.1 h (call_of q) lawful)
+after_reached : (h : History) (qs : List Request) → Reached h → Reached (history_after h qs)
+after_reached h [] reached = reached
+after_reached h (q ∷ qs) reached =
+    after_reached (next_history h (call_of q)) qs (record { lawful = histories_lawful.1 h (call_of q) reached.lawful; members = histories_hold.1 h (call_of q) reached.members })
 
-found-lawful : (qs : List Request) (k : ℕ) → Lawful (found qs k)
-found-lawful qs k = after-lawful idle (take k qs) histories_lawful.0
+found_reached : (qs : List Request) (k : ℕ) → Reached (found qs k)
+found_reached qs k = after_reached idle (take k qs) (record { lawful = histories_lawful.0; members = histories_hold.0 })
 
 ran_count : (h : History) (qs : List Request) (rs : List Answer) → Ran h qs rs → length rs ≡ length qs
 ran_count h [] [] r = refl
@@ -88,23 +88,12 @@ module _ (qs : List Request) (rs : List Answer) (qs' : List Request) (rs' : List
         let mine = kept.each k pair.q a pair.asked pair.told in
         let yours = kept'.each l pair.q' b pair.also_asked pair.also_told in
         alike (λ (o : CausalOrder). Value.Ordered o) (found qs k) (found qs' l) (Call.order p p') (Call.order p p') (OrderOf (found qs k) p p') (OrderOf (found qs' l) p p')
-        (orders-agree (found qs k) (found qs' l) (found-lawful qs k) (found-lawful qs' l) pair.columns p p') a.result b.result
-        (refused_by _ _ _ _ a mine pair.call) (refused_by _ _ _ _ b yours pair.also_call) (right_by _ _ _ _ a mine pair.call) (right_by _ _ _ _ b yours pair.also_call);
-    relations = λ k l r X Y X' Y' a b pair closed closed' ox oy.
-        let mine = kept.each k pair.q a pair.asked pair.told in
-        let yours = kept'.each l pair.q' b pair.also_asked pair.also_told in
-        alike (λ (v : Bool × ℕ). Value.Related v.0 v.1) (found qs k) (found qs' l) (Call.relate r X Y) (Call.relate r X' Y') (RelationOf (found qs k) r X Y) (RelationOf (found qs' l) r X' Y')
-        (relations-agree (found qs k) (found qs' l) (found-lawful qs k) (found-lawful qs' l) pair.columns closed closed' X Y X' Y' ox oy r) a.result b.result
+        (orders-agree (found qs k) (found qs' l) (found_reached qs k) (found_reached qs' l) pair.columns p p') a.result b.result
         (refused_by _ _ _ _ a mine pair.call) (refused_by _ _ _ _ b yours pair.also_call) (right_by _ _ _ _ a mine pair.call) (right_by _ _ _ _ b yours pair.also_call);
     stamps = λ k l p d len a b pair lent stage.
         row_by _ _ _ _ a (kept.each k pair.q a pair.asked pair.told) pair.call
         ∙ rows_alike (lent_of pair.q) (lent_of pair.q') (stamped (found qs k) p d len) (stamped (found qs' l) p d len) lent
-        (λ old. stamps_agree (found qs k) (found qs' l) (found-lawful qs k) (found-lawful qs' l) pair.columns stage p d len old)
-        ∙ sym (row_by _ _ _ _ b (kept'.each l pair.q' b pair.also_asked pair.also_told) pair.also_call);
-    cuts = λ k l w len X X' a b pair lent closed closed' ox.
-        row_by _ _ _ _ a (kept.each k pair.q a pair.asked pair.told) pair.call
-        ∙ rows_alike (lent_of pair.q) (lent_of pair.q') (cut_row (found qs k) X w len) (cut_row (found qs' l) X' w len) lent
-        (λ old. cuts-agree (found qs k) (found qs' l) (found-lawful qs k) (found-lawful qs' l) pair.columns closed closed' X X' ox w len old)
+        (λ old. stamps_agree (found qs k) (found qs' l) (found_reached qs k) (found_reached qs' l) pair.columns stage p d len old)
         ∙ sym (row_by _ _ _ _ b (kept'.each l pair.q' b pair.also_asked pair.also_told) pair.also_call);
   }
 

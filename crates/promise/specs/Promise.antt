@@ -1,18 +1,18 @@
--- The promise of the correlator, over every clock and any sequence of calls.
+-- The promise of the correlator, over every clock and any sequence of its calls: start, local, send, receive, meet, close, order and stamp.
 --
 -- Two correlators, each over a forward and a reverse clock of any make, are made and then given a list of requests each. A
 -- list may hold any calls in any order, also calls that are refused, and may be chosen by earlier answers: what a request
 -- is answered depends on the requests before it alone. The history is worked out from the arguments of the calls, never
--- from a correlator or a clock (history/specs: History, Calls, Answers); columns, links, cuts and relations are those of
--- the history (causality/specs and relating/specs).
+-- from a correlator or a clock (history/specs: History, Calls, Answers); columns and links are those of the history
+-- (causality/specs).
 --
---   Kept qs as    (a) and (b): every request of one run is answered as the history that it finds says
---   Agree ..      (c): where the histories of two requests, one of each run, have equal columns, they are answered alike
+--   Kept qs as    every request of one run is answered as the history that it finds says
+--   Agree ..      where the histories of two requests, one of each run, have equal columns, they are answered alike
 --   Promise ..    all of it
-use Rattle.std.specs.Prelude.{◌≡◌, ℕ, ◌<◌, true, ◌⊎◌, List, length, take, drop, Some, Ok, Err, Result}
-use Rattle.agreement.specs.Agreement.{SameColumns, SameOperation}
+use Rattle.std.specs.Prelude.{◌≡◌, ℕ, ◌<◌, ◌⊎◌, List, length, take, drop, Some, Ok, Err, Result}
+use Rattle.agreement.specs.Agreement.{SameColumns}
 use Rattle.causality.specs.declared.Place.{Place}
-use Rattle.history.specs.History.{is_open, is_closed}
+use Rattle.history.specs.History.{is_open}
 use Rattle.history.specs.Calls.{Call, next_history}
 use Rattle.promise.specs.declared.requests.Answer.{Answer}
 use Rattle.promise.specs.declared.requests.Request.{Request}
@@ -25,9 +25,8 @@ pub record Kept (qs : List Request) (answers : List Answer) : Type 0 where
   pub count : length answers ≡ length qs
   -- it is refused exactly if a refusal of the history holds, with the number of the first; an event call answers the place of
   -- its event; an order is before exactly if a chain of links leads from the first event to the second, after exactly if one
-  -- leads back, same exactly if both places name one event; a relation is yes exactly if it holds over all pairs of members,
-  -- and its steps are the rank of the comparison that decided it; a stamp or a cut has written exactly its row, and a refused
-  -- one nothing; and the history that it leaves is the one after the call
+  -- leads back, same exactly if both places name one event; a stamp has written exactly its row, and a refused one nothing; and
+  -- the history that it leaves is the one after the call
   pub each : (k : ℕ) (q : Request) (a : Answer) → nth qs k ≡ Some q → nth answers k ≡ Some a → Performed (found qs k) q a (next_history (found qs k) (call_of q))
 
 -- request k of one run makes the call c and is answered by a, request l of another makes c' and is answered by b, and the
@@ -46,17 +45,9 @@ pub record Pair (qs : List Request) (answers : List Answer) (qs' : List Request)
 pub record Agree (qs : List Request) (answers : List Answer) (qs' : List Request) (answers' : List Answer) : Type 0 where
   -- the same two places are ordered alike, or refused alike
   pub orders : (k l : ℕ) (p p' : Place) (a b : Answer) → Pair qs answers qs' answers' k l (Call.order p p') (Call.order p p') a b → a.result ≡ b.result
-  -- where both traces are closed, operations with members at the same places are related alike, steps included
-  pub relations : (k l r : ℕ) (X Y X' Y' : List ℕ) (a b : Answer) → Pair qs answers qs' answers' k l (Call.relate r X Y) (Call.relate r X' Y') a b →
-      is_closed (found qs k).stage ≡ true → is_closed (found qs' l).stage ≡ true →
-      SameOperation (found qs k) X (found qs' l) X' → SameOperation (found qs k) Y (found qs' l) Y' → a.result ≡ b.result
   -- where both are open or both closed, a timestamp of the same place leaves the same row in the same memory
   pub stamps : (k l : ℕ) (p : Place) (d len : ℕ) (a b : Answer) → (pair : Pair qs answers qs' answers' k l (Call.stamp p d len) (Call.stamp p d len) a b) →
       lent_of pair.q ≡ lent_of pair.q' → is_open (found qs k).stage ≡ is_open (found qs' l).stage → a.row ≡ b.row
-  -- where both are closed, a cut of operations with members at the same places leaves the same row in the same memory
-  pub cuts : (k l w len : ℕ) (X X' : List ℕ) (a b : Answer) → (pair : Pair qs answers qs' answers' k l (Call.cut X w len) (Call.cut X' w len) a b) →
-      lent_of pair.q ≡ lent_of pair.q' → is_closed (found qs k).stage ≡ true → is_closed (found qs' l).stage ≡ true →
-      SameOperation (found qs k) X (found qs' l) X' → a.row ≡ b.row
 
 pub record Promise (qs : List Request) (answers : List Answer) (qs' : List Request) (answers' : List Answer) : Type 0 where
   pub first : Kept qs answers

@@ -5,11 +5,10 @@
 --   written h c old      what the call c, found at the history h, makes of the numbers that it is lent: a stamp or a cut that is
 --                        accepted writes its n numbers at the front, and nothing else is altered
 --   left_by h q          the whole row after the request
---   Right h c v          v is the answer of the accepted call c
+--   Right h c v          v is the answer of the accepted call c; no request makes a gather, a cut or a relate
 --   Performed h q a h'   the request q, found at the history h, was answered by a and left the history h'
-use Rattle.std.specs.Prelude.{◌≡◌, ℕ, min, Bool, List, ◌++◌, take, drop, replicate, IfOk, Ok, Err, Result}
+use Rattle.std.specs.Prelude.{◌≡◌, ℕ, min, List, ◌++◌, take, drop, replicate, IfOk, Ok, Err, Result}
 use Rattle.std.specs.Option.{option_map}
-use Rattle.agreement.specs.Agreement.{RelationOf}
 use Rattle.causality.specs.declared.CausalOrder.{CausalOrder}
 use Rattle.gathering.specs.declared.Row.{Row}
 use Rattle.history.specs.declared.refusal.Refusal.{Refusal}
@@ -20,7 +19,7 @@ use Rattle.history.specs.Refusals.{number}
 use Rattle.promise.specs.declared.requests.Answer.{Answer}
 use Rattle.promise.specs.declared.requests.Lent.{Lent}
 use Rattle.promise.specs.declared.requests.Request.{Request}
-use Rattle.promise.specs.declared.requests.Request.TheVariants.{Start, Local, Send, Receive, Meet, Close, Gather, Order, Stamp, Cut, Relate}
+use Rattle.promise.specs.declared.requests.Request.TheVariants.{Start, Local, Send, Receive, Meet, Close, Order, Stamp}
 use Rattle.promise.specs.declared.requests.Value.{Value}
 
 -- how many numbers are lent
@@ -34,11 +33,8 @@ call_of (Send a m) = Call.send a m
 call_of (Receive a m) = Call.receive a m
 call_of (Meet a b) = Call.meet a b
 call_of Close = Call.close
-call_of (Gather name places) = Call.gather name.now places.now
 call_of (Order p q) = Call.order p q
 call_of (Stamp p d lent) = Call.stamp p d (lent_length lent)
-call_of (Cut name w lent) = Call.cut name.now w (lent_length lent)
-call_of (Relate r x y) = Call.relate r x.now y.now
 
 abbrev pub no_row : Row
 no_row = record { counts = replicate 16 0 }
@@ -53,11 +49,8 @@ lent_of (Send a m) = nothing_lent
 lent_of (Receive a m) = nothing_lent
 lent_of (Meet a b) = nothing_lent
 lent_of Close = nothing_lent
-lent_of (Gather name places) = nothing_lent
 lent_of (Order p q) = nothing_lent
 lent_of (Stamp p d lent) = lent
-lent_of (Cut name w lent) = lent
-lent_of (Relate r x y) = nothing_lent
 
 -- a row of which the lent numbers were changed
 abbrev pub with_lent : Lent → (List ℕ → List ℕ) → Row
@@ -87,11 +80,11 @@ Right h (Call.send a m) v = v ≡ Value.Placed (next_place h a)
 Right h (Call.receive a m) v = v ≡ Value.Placed (next_place h a)
 Right h (Call.meet a b) v = v ≡ Value.Placed (next_place h a)
 Right h Call.close v = v ≡ Value.Done
-Right h (Call.gather name places) v = v ≡ Value.Done
+Right h (Call.gather name places) v = ⊥
 Right h (Call.order p q) v = (o : CausalOrder) × (v ≡ Value.Ordered o) × OrderOf h p q o
 Right h (Call.stamp p d len) v = v ≡ Value.Done
-Right h (Call.cut name w len) v = v ≡ Value.Done
-Right h (Call.relate r x y) v = (a : Bool × ℕ) × (v ≡ Value.Related a.0 a.1) × RelationOf h r x y a
+Right h (Call.cut name w len) v = ⊥
+Right h (Call.relate r x y) v = ⊥
 
 -- a result, with what it holds made an answer's value
 abbrev pub valued : {X : Type 0} → (X → Value) → Result X Refusal → Result Value Refusal
@@ -109,9 +102,3 @@ pub record Performed (h : History) (q : Request) (a : Answer) (h' : History) : T
   pub right : IfOk a.result (Right h (call_of q))
   pub row : a.row ≡ left_by h q
   pub leaves : h' ≡ next_history h (call_of q)
-
--- the same of a cut, of which the name is given by its bytes
-pub record PerformedCut (h : History) (name : List ℕ) (w : ℕ) (lent : Lent) (a : Answer) : Type 0 where
-  pub refuses : reason a.result ≡ refusal h (Call.cut name w (lent_length lent))
-  pub right : IfOk a.result (λ v. v ≡ Value.Done)
-  pub row : a.row ≡ with_lent lent (cut_row h name w (lent_length lent))

@@ -13,7 +13,7 @@ pub struct Lent {
 
 /// A call on a correlator.
 #[derive(Clone, Copy)]
-pub enum Request<'n, 'p> {
+pub enum Request {
     /// A number of nodes.
     Start(u16),
     /// A node.
@@ -25,29 +25,21 @@ pub enum Request<'n, 'p> {
     /// Two nodes.
     Meet(u16, u16),
     Close,
-    /// A name and places.
-    Gather(&'n [u8], &'p [Place]),
     /// Two places.
     Order(Place, Place),
     /// A place, a direction (1 or 2), and a row.
     Stamp(Place, u16, Lent),
-    /// A name, a cut (1 to 4), and a row.
-    Cut(&'n [u8], u16, Lent),
-    /// A relation (1 to 6) and two names.
-    Relate(u16, &'n [u8], &'p [u8]),
 }
 
 /// What an accepted call answers.
 #[derive(Clone, Copy)]
 pub enum Value {
-    /// A start, close, gather, stamp or cut was done.
+    /// A start, close or stamp was done.
     Done,
     /// The place of an event.
     Placed(Place),
     /// How two events stand to each other.
     Ordered(CausalOrder),
-    /// A verdict and its steps.
-    Related(bool, u16),
 }
 
 /// What a call answered, and what it left in the row that it was lent: zeros if it was lent none.

@@ -2,7 +2,7 @@
 
 ghost use Rattle.correlator.specs.State.{Sound, history};
 ghost use Rattle.promise.specs.Promise.{Both};
-ghost use Rattle.promise.specs.Requests.{Performed, PerformedCut, valued, without_row};
+ghost use Rattle.promise.specs.Requests.{Performed, valued, without_row};
 ghost use Rattle.promise.specs.Runs.{Run};
 ghost use Rattle.promise.specs.declared.requests.Request.TheVariants.{Stamp};
 ghost use Rattle.std.specs.Prelude.{◌≡◌, Ok, Err};
@@ -20,8 +20,8 @@ use history::Refusal;
 pub struct Short;
 
 /// Makes a call on a correlator.
-pub fn perform<F: Clock, R: Clock>(c: &mut Correlator<F, R>, request: Request<'_, '_>) -> Answer
-    ensures { Sound F.Clock.means R.Clock.means c.old → Sound F.Clock.means R.Clock.means c.new × Performed (history c.old) request.entry result (history c.new) }
+pub fn perform<F: Clock, R: Clock>(c: &mut Correlator<F, R>, request: Request) -> Answer
+    ensures { Sound F.Clock.means R.Clock.means c.old → Sound F.Clock.means R.Clock.means c.new × Performed (history c.old) request result (history c.new) }
 {
     match request {
         Request::Start(n) => done(c.start(n)),
@@ -30,17 +30,11 @@ pub fn perform<F: Clock, R: Clock>(c: &mut Correlator<F, R>, request: Request<'_
         Request::Receive(a, m) => placed(c.receive(a, m)),
         Request::Meet(a, b) => placed(c.meet(a, b)),
         Request::Close => done(c.close()),
-        Request::Gather(name, places) => done(c.gather(name, places)),
         Request::Order(p, q) => match c.order(p, q) {
             Ok(order) => value(Value::Ordered(order)),
             Err(refusal) => refused(refusal),
         },
         Request::Stamp(p, d, lent) => stamp(c, p, d, lent),
-        Request::Cut(name, w, lent) => cut(c, name, w, lent),
-        Request::Relate(r, x, y) => match c.relate(r, x, y) {
-            Ok((verdict, steps)) => value(Value::Related(verdict, steps)),
-            Err(refusal) => refused(refusal),
-        },
     }
 }
 
@@ -95,19 +89,6 @@ fn stamp<F: Clock, R: Clock>(c: &Correlator<F, R>, p: Place, d: u16, lent: Lent)
     }
 }
 
-// A cut, written into the lent row.
-fn cut<F: Clock, R: Clock>(c: &Correlator<F, R>, name: &[u8], w: u16, lent: Lent) -> Answer
-    ensures { Sound F.Clock.means R.Clock.means c.now → PerformedCut (history c.now) name.now w lent result }
-{
-    let mut row = lent.row;
-    let len = lent.len.min(16) as usize;
-    let result = c.cut(name, w, &mut row.counts[0..len]);
-    Answer {
-        result: of_writing(result),
-        row,
-    }
-}
-
 fn of_writing(res: Result<(), Refusal>) -> Result<Value, Refusal>
     ensures { result ≡ valued (λ _. Value.Done) res }
 {
@@ -119,7 +100,7 @@ fn of_writing(res: Result<(), Refusal>) -> Result<Value, Refusal>
 
 /// Makes a correlator and performs the calls on it, one after another; each answer goes to the place of its call.
 pub fn run<F: Clock + Drop, R: Clock + Drop>(
-    requests: &[Request<'_, '_>],
+    requests: &[Request],
     answers: &mut [Answer],
 ) -> Result<(), Short>
     ensures { Run requests.now answers.old result answers.new }
@@ -136,8 +117,8 @@ pub fn run<F: Clock + Drop, R: Clock + Drop>(
 
 /// Makes two correlators on any four clocks and performs a list of calls on each.
 pub fn run_both<F: Clock + Drop, R: Clock + Drop, G: Clock + Drop, S: Clock + Drop>(
-    first: &[Request<'_, '_>],
-    second: &[Request<'_, '_>],
+    first: &[Request],
+    second: &[Request],
     answers: &mut [Answer],
     others: &mut [Answer],
 ) -> Result<(), Short>

@@ -11,7 +11,7 @@ use Rattle.causality.specs.Limits.{is_node}
 use Rattle.causality.specs.Relations.{first_at, last_at, joint_past, whole_past, first_reach, joint_reach}
 use Rattle.gathering.specs.declared.Row.{Row}
 use Rattle.records.specs.declared.operations.Operation.{Operation}
-use Rattle.records.specs.Operations.{member_list}
+use Rattle.records.specs.Operations.{member_list, joint_past_of, whole_past_of, first_reach_of, joint_reach_of}
 
 abbrev pub at_node : Row → ℕ → ℕ
 at_node row zero = 0
@@ -25,7 +25,7 @@ pub record Summary (vs : List Event) (n x : ℕ) (xs : List ℕ) (o : Operation)
   pub held : AllByRecursion (λ u. u < length vs) (x ∷ xs)
   pub firsts : (i : ℕ) → is_node n i ≡ true → present (at_node o.first i) ≡ first_at vs (x ∷ xs) i
   pub lasts : (i : ℕ) → is_node n i ≡ true → present (at_node o.last i) ≡ last_at vs (x ∷ xs) i
-  pub joint_pasts : (i : ℕ) → is_node n i ≡ true → at_node o.joint_past i ≡ joint_past vs x xs i
-  pub whole_pasts : (i : ℕ) → is_node n i ≡ true → at_node o.whole_past i ≡ whole_past vs x xs i
-  pub first_reaches : (i : ℕ) → is_node n i ≡ true → at_node o.first_reach i ≡ first_reach vs x xs i
-  pub joint_reaches : (i : ℕ) → is_node n i ≡ true → at_node o.joint_reach i ≡ joint_reach vs x xs i
+  pub joint_pasts : (i : ℕ) → is_node n i ≡ true → at_node (joint_past_of o) i ≡ joint_past vs x xs i
+  pub whole_pasts : (i : ℕ) → is_node n i ≡ true → at_node (whole_past_of o) i ≡ whole_past vs x xs i
+  pub first_reaches : (i : ℕ) → is_node n i ≡ true → at_node (first_reach_of o) i ≡ first_reach vs x xs i
+  pub joint_reaches : (i : ℕ) → is_node n i ≡ true → at_node (joint_reach_of o) i ≡ joint_reach vs x xs i

@@ -25,14 +25,8 @@ pub struct Operation {
     pub first: Row,
     /// The index of the last member at each node, 0 where no member stands.
     pub last: Row,
-    /// How many events of each node come to every member.
-    pub joint_past: Row,
-    /// How many events of each node come to some member.
-    pub whole_past: Row,
-    /// The index of the first event of each node that some member comes to; one behind the last if there is none.
-    pub first_reach: Row,
-    /// The index of the first event of each node that every member comes to; one behind the last if there is none.
-    pub joint_reach: Row,
+    /// The joint past, the whole past, the first reach and the joint reach.
+    pub cuts: [Row; 4],
 }
 
 impl Keyed for Operation {

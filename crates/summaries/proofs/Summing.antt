@@ -11,7 +11,7 @@ use Rattle.causality.proofs.Indexes.{index_is_stamp}
 use Rattle.clock.specs.Meaning.{Meaning, counted}
 use Rattle.counting.specs.Counting.{or_zero, or_zeros, count_row}
 use Rattle.counting.proofs.Rows.{length-row}
-use Rattle.counting.proofs.Joint.{op, joint, get_or-row}
+use Rattle.counting.proofs.Joint.{op, joint_rows, get_or-row}
 use Rattle.gathering.specs.declared.Row.{Row}
 use Rattle.gathering.specs.Gathering.{joined_all}
 use Rattle.history.specs.Answers.{row}
@@ -45,7 +45,7 @@ module _ (vs : List Event) (n : ℕ) (μ ρ : Meaning) (es : List Event) (total 
 
         go : (k : ℕ) → is_node n k ≡ true → at_node r k ≡ joined f (λ u. at_node (of u) k) x xs
         go zero h = absurd (false≢true h)
-        go (suc j) h = joint f associative of sixteen (x ∷ xs) r all j (omega (arith, node-low n (suc j) h, t.nodes))
+        go (suc j) h = joint_rows f associative of sixteen (x ∷ xs) r all j (omega (arith, node-low n (suc j) h, t.nodes))
 
     pub at-past : r ≡ or_zeros (joined_all (op f associative) (map (count_row μ) ms)) → at_node r i ≡ joined f (λ u. fore vs u i) x xs
     at-past e =

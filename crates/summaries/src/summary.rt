@@ -34,9 +34,11 @@ pub fn summarize<F: Clock, R: Clock>(
         members: members.events,
         first,
         last,
-        joint_past,
-        whole_past,
-        first_reach: from_end(&ends, &greatest),
-        joint_reach: from_end(&ends, &least),
+        cuts: [
+            joint_past,
+            whole_past,
+            from_end(&ends, &greatest),
+            from_end(&ends, &least),
+        ],
     }
 }

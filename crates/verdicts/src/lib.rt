@@ -74,11 +74,11 @@ pub fn relate(relation: Relation, x: &Operation, y: &Operation, nodes: u16) -> (
     ensures walked { Answers relation x.now y.now nodes result }
 {
     match relation {
-        Relation::R1 => every(&x.last, Comparison::AtMost, &y.joint_past, nodes),
-        Relation::R2 => every(&x.last, Comparison::AtMost, &y.whole_past, nodes),
-        Relation::R2P => some(&y.last, Comparison::AtLeast, &x.joint_reach, nodes),
-        Relation::R3 => some(&x.first, Comparison::AtMost, &y.joint_past, nodes),
-        Relation::R3P => every(&y.first, Comparison::AtLeast, &x.first_reach, nodes),
-        Relation::R4 => some(&x.first, Comparison::AtMost, &y.whole_past, nodes),
+        Relation::R1 => every(&x.last, Comparison::AtMost, &y.cuts[0], nodes),
+        Relation::R2 => every(&x.last, Comparison::AtMost, &y.cuts[1], nodes),
+        Relation::R2P => some(&y.last, Comparison::AtLeast, &x.cuts[3], nodes),
+        Relation::R3 => some(&x.first, Comparison::AtMost, &y.cuts[0], nodes),
+        Relation::R3P => every(&y.first, Comparison::AtLeast, &x.cuts[2], nodes),
+        Relation::R4 => some(&x.first, Comparison::AtMost, &y.cuts[1], nodes),
     }
 }

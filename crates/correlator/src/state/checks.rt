@@ -1,6 +1,6 @@
 //! The refusals of each call, tried in order.
 
-ghost use Rattle.feeding.specs.Posted.{event_of};
+ghost use Rattle.correlator.specs.Posted.{event_of};
 ghost use Rattle.correlator.specs.State.{history, local_tests, meet_tests, receive_tests, send_tests};
 ghost use Rattle.causality.specs.Limits.{max_events};
 ghost use Rattle.history.specs.Answers.{reason};

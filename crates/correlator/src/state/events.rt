@@ -1,6 +1,7 @@
 //! Starting a trace, and its events.
 
 ghost use Rattle.std.specs.Prelude.{◌≡◌, ◌<◌};
+ghost use Rattle.causality.specs.Traces.{node_of, partner_of};
 ghost use Rattle.correlator.specs.State.{Appended, Sound, history};
 ghost use Rattle.history.specs.Answers.{Obeys, next_place};
 ghost use Rattle.history.specs.Calls.{Call};
@@ -11,7 +12,7 @@ use causality::{Event, MAX_NODES, Place};
 use clock::{Clock, is_node};
 use counting::or_zero;
 use history::{Refusal, Stage};
-use records::{Messages, Operations, Sent};
+use records::{Messages, Sent};
 
 impl<F: Clock, R: Clock> Correlator<F, R> {
     /// A correlator that has no trace yet.
@@ -27,7 +28,6 @@ impl<F: Clock, R: Clock> Correlator<F, R> {
             len: 0,
             events: [Event::Local(0); EVENTS],
             sent: Messages::new(),
-            operations: Operations::new(),
         }
     }
 
@@ -44,7 +44,6 @@ impl<F: Clock, R: Clock> Correlator<F, R> {
         self.nodes = n;
         self.len = 0;
         self.sent.clear();
-        self.operations.clear();
         Ok(())
     }
 
@@ -96,11 +95,33 @@ impl<F: Clock, R: Clock> Correlator<F, R> {
         requires { self.old.len < 512 }
         ensures { Appended F.Clock.means self.old self.new event follows result }
     {
-        let node = event.node();
-        let _ = self.forward.take(node, event.partner(), follows);
+        let node = node_of(event);
+        let _ = self.forward.take(node, partner_of(event), follows);
         let index = or_zero(self.forward.count(self.len, node));
         self.events[self.len as usize] = event;
         self.len += 1;
         Place { node, index }
+    }
+}
+
+pub(crate) fn node_of(event: Event) -> u16
+    ensures { result ≡ node_of event }
+{
+    match event {
+        Event::Local(a) => a,
+        Event::Send(a, _) => a,
+        Event::Receive(a, _) => a,
+        Event::Meet(a, _) => a,
+    }
+}
+
+pub(crate) fn partner_of(event: Event) -> Option<u16>
+    ensures { result ≡ partner_of event }
+{
+    match event {
+        Event::Local(_) => None,
+        Event::Send(_, _) => None,
+        Event::Receive(_, _) => None,
+        Event::Meet(_, b) => Some(b),
     }
 }

@@ -1,8 +1,7 @@
 //! Questions about the trace: the order of two events, and an event's vector timestamp.
 
 ghost use Rattle.std.specs.Prelude.{◌≡◌, ◌≤◌, length, IfOk, Some, OnOk, ◌==◌};
-ghost use Rattle.correlator.specs.State.{Sound, choose, counts, history, order_tests, stamp_tests};
-ghost use Rattle.counting.specs.Counting.{found_at};
+ghost use Rattle.correlator.specs.State.{Sound, choose, counts, found_at, history, order_tests, stamp_tests};
 ghost use Rattle.history.specs.Answers.{Obeys, OrderOf, reason, stamped};
 ghost use Rattle.history.specs.Calls.{Call, first_that};
 

@@ -1,7 +1,7 @@
 //! Looking up and adding operations.
 
 ghost use Rattle.std.specs.Prelude.{◌≡◌, ℕ, ◌+◌, ◌<◌, if◌then◌else◌, Some, None, MatchOption, nat_eq};
-ghost use Rattle.records.specs.Operations.{cut_of, operation_of};
+ghost use Rattle.records.specs.Operations.{FindsOperation, cut_of, operation_at, operation_of};
 
 use super::{MAX_MEMBERS, MAX_OPERATIONS, Operation, Operations};
 use gathering::{ROW, Row};
@@ -12,10 +12,10 @@ impl Operation {
         ensures { result ≡ cut_of self.now w }
     {
         match w {
-            1 => Some(self.joint_past),
-            2 => Some(self.whole_past),
-            3 => Some(self.first_reach),
-            4 => Some(self.joint_reach),
+            1 => Some(self.cuts[0]),
+            2 => Some(self.cuts[1]),
+            3 => Some(self.cuts[2]),
+            4 => Some(self.cuts[3]),
             _ => None,
         }
     }
@@ -34,10 +34,7 @@ impl Operations {
                 members: [0; MAX_MEMBERS],
                 first: zeros,
                 last: zeros,
-                joint_past: zeros,
-                whole_past: zeros,
-                first_reach: zeros,
-                joint_reach: zeros,
+                cuts: [zeros; 4],
             }; MAX_OPERATIONS],
             len: 0,
         }
@@ -57,8 +54,39 @@ impl Operations {
         self.len
     }
 
+    /// The position of the operation of this name, if there is one.
+    pub fn find(&self, name: u64) -> Option<usize>
+        ensures { FindsOperation self.now name result }
+    {
+        match table::find(&self.records, self.len, &name) {
+            Some(at) => Some(at),
+            None => None,
+        }
+    }
+
+    /// The operation at a position, if there is one.
+    pub fn at(&self, position: usize) -> Option<Operation>
+        ensures { result ≡ operation_at self.now position }
+    {
+        if position < self.len {
+            Some(self.records[position])
+        } else {
+            None
+        }
+    }
+
     /// The operation of this name, if there is one.
-    pub fn get(&self, name: u64) -> Option<&Operation>
+    pub fn get(&self, name: u64) -> Option<Operation>
+        ensures { result ≡ operation_of self.now name }
+    {
+        match table::find(&self.records, self.len, &name) {
+            Some(at) => Some(self.records[at]),
+            None => None,
+        }
+    }
+
+    /// The operation of this name, if there is one, where it lies.
+    pub fn get_ref(&self, name: u64) -> Option<&Operation>
         ensures { MatchOption result (operation_of self.now name ≡ None) (λ o. operation_of self.now name ≡ Some o.now) }
     {
         match table::find(&self.records, self.len, &name) {

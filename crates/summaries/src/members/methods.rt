@@ -2,8 +2,8 @@
 
 ghost use Rattle.std.specs.Prelude.{◌≡◌, ◌+◌, ◌<◌, ◌≤◌, true, false, [], length, Some, MatchOption, nat_eq};
 ghost use Rattle.causality.specs.Newest.{has};
-ghost use Rattle.counting.specs.Counting.{found_at};
-ghost use Rattle.history.specs.History.{gathered, some_unnamed, with_member};
+ghost use Rattle.summaries.specs.Places.{found_at};
+ghost use Rattle.summaries.specs.Places.{gathered, some_unfound, with_member};
 ghost use Rattle.summaries.specs.Members.{listed};
 
 use super::Members;
@@ -49,7 +49,7 @@ fn holds(events: &[u16], event: u16) -> bool
 /// The events that a clock finds at the places, each once; none if a place has no event.
 pub fn members_at<C: Clock>(clock: &C, places: &[Place]) -> Option<Members>
     requires { length places.now ≤ 512 }
-    ensures { MatchOption result (some_unnamed (found_at (C.Clock.means clock.now)) places.now ≡ true) (λ m. (some_unnamed (found_at (C.Clock.means clock.now)) places.now ≡ false) × (listed m ≡ gathered (found_at (C.Clock.means clock.now)) [] places.now)) }
+    ensures { MatchOption result (some_unfound (found_at (C.Clock.means clock.now)) places.now ≡ true) (λ m. (some_unfound (found_at (C.Clock.means clock.now)) places.now ≡ false) × (listed m ≡ gathered (found_at (C.Clock.means clock.now)) [] places.now)) }
 {
     let mut members = Members::new();
     for p in places {

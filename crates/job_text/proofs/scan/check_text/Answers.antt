@@ -15,7 +15,7 @@ loop-line-smaller c = search (rules, cut_shorter)
 
 pub loop-line-preserved : goal.loop-line-preserved
 loop-line-preserved c = (
-  begin_more c.loop-line.invariant.0 c.in-Some-read_line.ensures c.in-Some.ensures,
+  begin_more c.in-Some-read_line.field-0 c.loop-line.invariant.0 c.in-Some-read_line.ensures c.in-Some.ensures,
   count-line c.loop-line.good c.in-Some.ensures c.loop-line.invariant.1,
 )
 

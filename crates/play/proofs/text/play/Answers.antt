@@ -7,7 +7,7 @@ pub loop-k-init : goal.loop-k-init
 loop-k-init g c = begin (history c.args.c.now) c.args.out.now c.in-Ok.ensures c.new-reader.ensures
 
 pub loop-k-preserved : goal.loop-k-preserved
-loop-k-preserved g c = one_more c.loop-k.invariant c.in-Some.ensures c.in-Some-read_line.ensures c.play_line-at.ensures.room (c.play_line-at.ensures.played _ c.in-Some-read_line.ensures)
+loop-k-preserved g c = one_more c.in-Some-read_line.call c.loop-k.invariant c.in-Some.ensures c.in-Some-read_line.ensures c.play_line-at.ensures.room c.play_line-at.ensures.played
 
 pub returns-after-loop-k : goal.returns-after-loop-k
 returns-after-loop-k g c = record { room = search rules; played = done_all c.loop-k.invariant (none_left c.loop-k.invariant (search rules)) (search rules) }

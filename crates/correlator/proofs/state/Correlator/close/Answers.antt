@@ -5,19 +5,15 @@ use Rattle.causality.specs.Traces.{backward}
 use Rattle.clock.specs.Meaning.{Meaning}
 use Rattle.clock.specs.Takes.{meaning}
 use Rattle.history.specs.declared.Stage.{Stage}
-use Rattle.history.specs.History.{History, is_closed}
+use Rattle.history.specs.History.{History, no_operations, is_closed}
 use Rattle.history.specs.Calls.{Call}
 use Rattle.history.specs.Lawful.{Fits}
 use Rattle.records.specs.Messages.{sent_of}
-use Rattle.feeding.specs.Posted.{follower, fed_through}
-use Rattle.correlator.specs.State.{history}
-use Rattle.catalog.specs.Catalog.{kept_operations}
-use Rattle.causality.proofs.Newest.{nothing}
-use Rattle.std.proofs.lemmas.Bool.{false≢true}
-use Rattle.catalog.proofs.Keeping.{no_operation}
+use Rattle.correlator.specs.Posted.{follower}
+use Rattle.correlator.specs.State.{history, fed_through}
 use Rattle.correlator.proofs.Kept.{kept-length}
 use Rattle.correlator.proofs.Events.{obeyed}
-use Rattle.feeding.proofs.Backs.{fed_whole, all-reverse}
+use Rattle.correlator.proofs.Backs.{fed_whole, all-reverse}
 use Rattle.correlator.proofs.state.Correlator.close.Goals as goal
 
 pub returns : goal.returns
@@ -37,10 +33,8 @@ returns g c pre =
             ∙ ap (λ (μ : Meaning). fed_through μ (follower held s.len) (take s.len s.events)) empty
             ∙ ap₂ (λ (n : ℕ) (es : List Event). fed_through (meaning s.nodes []) (follower held n) es) (sym (kept-length s.len s.events s.long s.within)) all
             ∙ whole;
-        lawful = record { fits = lawful.fits; accepted = lawful.accepted; once = lawful.once; few = lawful.few; nodes = lawful.nodes; members = lawful.members };
+        lawful = record { fits = lawful.fits; accepted = lawful.accepted; once = lawful.once; few = lawful.few; nodes = lawful.nodes };
         posts = pre.posts;
-        none = λ e. absurd (false≢true (sym e));
-        rows = λ name o e. absurd (nothing (sym (no_operation s.operations (pre.none (rw c.in-Open.is)) name) ∙ e));
       },
-      obeyed h (record { stage = Stage.Closed; nodes = s.nodes; events = vs; operations = kept_operations s.operations }) Call.close tt (λ _. Unit {0}) (rw c.in-Open.is) refl tt,
+      obeyed h (record { stage = Stage.Closed; nodes = s.nodes; events = vs; operations = no_operations }) Call.close tt (λ _. Unit {0}) (rw c.in-Open.is) refl tt,
     )

@@ -6,9 +6,8 @@ use Rattle.history.proofs.Lawful.{may_meet}
 use Rattle.records.specs.declared.messages.Messages.{Messages}
 use Rattle.records.specs.Messages.{sent_of}
 use Rattle.correlator.specs.State.{history}
-use Rattle.correlator.proofs.Refusing.{meet-refusal}
-use Rattle.feeding.proofs.Taking.{numbers_never}
-use Rattle.correlator.proofs.Events.{event_done}
+use Rattle.correlator.proofs.Posts.{meet-refusal}
+use Rattle.correlator.proofs.Events.{event_done, numbers_never}
 use Rattle.correlator.proofs.state.Correlator.meet.Goals as goal
 
 pub returns-in_err-check_meet : goal.returns-in_err-check_meet
@@ -24,4 +23,4 @@ returns g c pre =
     let h = history s in
     let free = sym (c.in_ok-check_meet.ensures ∙ meet-refusal f r s c.args.a c.args.b) in
     event_done f r s c.append.new.self _ (Event.Meet c.args.a c.args.b) None c.append.result (Call.meet c.args.a c.args.b) pre c.append.ensures (may_meet h c.args.a c.args.b free) (passed (refusals h (Call.meet c.args.a c.args.b)) free).1.0 (sym (numbers_never h.events))
-    free refl refl refl refl refl (λ j. ap (λ (t : Messages). sent_of t j) c.append.ensures.sent ∙ pre.posts j)
+    free refl refl refl refl (λ j. ap (λ (t : Messages). sent_of t j) c.append.ensures.sent ∙ pre.posts j)

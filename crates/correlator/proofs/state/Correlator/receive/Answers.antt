@@ -8,9 +8,8 @@ use Rattle.records.specs.Messages.{sent_of}
 use Rattle.correlator.specs.State.{history}
 use Rattle.correlator.proofs.Kept.{kept-length}
 use Rattle.std.specs.Option.{option_to_list}
-use Rattle.feeding.specs.Posted.{event_of}
-use Rattle.feeding.proofs.Posts.{post_receive, posted_event}
-use Rattle.correlator.proofs.Refusing.{receive-refusal}
+use Rattle.correlator.specs.Posted.{event_of}
+use Rattle.correlator.proofs.Posts.{receive-refusal, post_receive, posted_event}
 use Rattle.correlator.proofs.Events.{event_done}
 use Rattle.correlator.proofs.state.Correlator.receive.Goals as goal
 
@@ -32,5 +31,5 @@ returns g c pre =
     let sender = ap option_to_list (sym c.in_ok-sender.ensures.sender ∙ ap event_of (pre.posts m)) ∙ posted_event h.events m pre.lawful.accepted in
     let number = sym (kept-length s.len s.events s.long s.within) in
     event_done f r s c.append-place.new.self _ (Event.Receive a m) (Some e) c.append-place.result (Call.receive a m) pre c.append-place.ensures (may_receive h a m free) (passed (refusals h (Call.receive a m)) free).1.0 sender
-    free refl refl refl refl refl
+    free refl refl refl refl
     (λ j. c.receive.ensures.sets j ∙ post_receive h.events a m j s.len _ number (ap (λ (t : Messages). sent_of t j) c.append-place.ensures.sent ∙ pre.posts j))

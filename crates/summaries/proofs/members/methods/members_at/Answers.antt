@@ -1,8 +1,9 @@
 use Rattle.std.proofs.Common.{◌≡◌, ℕ, ◌+◌, false, ◌||◌, List, get_or, drop, Some, None, Option, sym, ap, ◌∙◌, arith}
 use Rattle.std.proofs.lemmas.List.{at_drop_more, at_drop_all}
 use Rattle.causality.specs.declared.Place.{Place}
-use Rattle.counting.specs.Counting.{found_at}
-use Rattle.history.specs.History.{is_none, with_member, gathered, some_unnamed}
+use Rattle.summaries.specs.Places.{found_at}
+use Rattle.history.specs.History.{is_none}
+use Rattle.summaries.specs.Places.{with_member, gathered, some_unfound}
 use Rattle.summaries.specs.Members.{listed}
 use Rattle.summaries.proofs.members.methods.members_at.Goals as goal
 
@@ -13,7 +14,7 @@ returns-in_err-event g c =
     let i = c.loop-p.p-index in
     let p : Place = get_or ps i (record { node = 0; index = 0 }) in
     let none : names p ≡ None = sym c.in_err-event.ensures in
-    let next : some_unnamed names (drop i ps) ≡ (is_none (names p) || some_unnamed names (drop (i + 1) ps)) = at_drop_more (some_unnamed names) ps i (record { node = 0; index = 0 }) c.loop-p-test.true in
+    let next : some_unfound names (drop i ps) ≡ (is_none (names p) || some_unfound names (drop (i + 1) ps)) = at_drop_more (some_unfound names) ps i (record { node = 0; index = 0 }) c.loop-p-test.true in
     rw c.from_residual.ensures (sym c.loop-p.invariant.1 ∙ next ∙ rw none)
 
 pub loop-p-preserved : goal.loop-p-preserved
@@ -25,7 +26,7 @@ loop-p-preserved g c =
     let p : Place = get_or ps i none in
     let ms = listed c.loop-p.members in
     let found : names p ≡ Some c.in_ok-event.event = sym c.in_ok-event.ensures in
-    let next : some_unnamed names (drop i ps) ≡ (is_none (names p) || some_unnamed names (drop (i + 1) ps)) = at_drop_more (some_unnamed names) ps i none c.loop-p-test.true in
+    let next : some_unfound names (drop i ps) ≡ (is_none (names p) || some_unfound names (drop (i + 1) ps)) = at_drop_more (some_unfound names) ps i none c.loop-p-test.true in
     let more : gathered names ms (drop i ps) ≡ gathered names (with_member ms (names p)) (drop (i + 1) ps) = at_drop_more (gathered names ms) ps i none c.loop-p-test.true in (
       omega (arith, c.add.ensures.len, c.loop-p.invariant.0),
       sym (next ∙ rw found) ∙ c.loop-p.invariant.1,
@@ -38,6 +39,6 @@ returns g c =
     let ps = c.args.places.now in
     let i = c.loop-p.p-index in
     let ms = listed c.loop-p.members in
-    let all : some_unnamed names (drop i ps) ≡ false = at_drop_all (some_unnamed names) ps i c.loop-p-test.false in
+    let all : some_unfound names (drop i ps) ≡ false = at_drop_all (some_unfound names) ps i c.loop-p-test.false in
     let done : gathered names ms (drop i ps) ≡ ms = at_drop_all (gathered names ms) ps i c.loop-p-test.false in
     (sym c.loop-p.invariant.1 ∙ all, sym done ∙ c.loop-p.invariant.2)

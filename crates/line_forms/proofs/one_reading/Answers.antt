@@ -1,5 +1,0 @@
-use Rattle.line_forms.proofs.Unique.{unique}
-use Rattle.line_forms.proofs.one_reading.Goals as goal
-
-pub returns : goal.returns
-returns c = unique
