@@ -45,8 +45,8 @@ walked h reached r low high X Y x xs y ys ex ey a right =
     (walks_related h.events (accepted_is_orderly h.events reached.lawful.accepted) h.nodes (only_nodes h reached) x xs y ys
     (reached.members X (x ∷ xs) ex).held (reached.members Y (y ∷ ys) ey).held r low high)
 
-pub relations-agree : RelationsAgree
-relations-agree h k reached reached' same closed closed' X Y X' Y' ox oy r a b (ea, ma) (eb, mb) =
+pub relations_agree : RelationsAgree
+relations_agree h k reached reached' same closed closed' X Y X' Y' ox oy r a b (ea, ma) (eb, mb) =
     let orderly = accepted_is_orderly h.events reached.lawful.accepted in
     let orderly' = accepted_is_orderly k.events reached'.lawful.accepted in
     let columns = equal_columns h k reached reached' same in

@@ -38,8 +38,8 @@ stamps_agree h k reached reached' same opens p d len old =
         p.node p.index x x' p.node p.index x x' place place' place place' in
         same-with_row h.nodes k.nodes same.nodes (stamp_number h d x) (stamp_number k d x') (λ i. ap₂ (cond (eqb d 1)) (agrees.stamps i) (agrees.reverse_stamps i)) old
 
-pub cuts-agree : CutsAgree
-cuts-agree h k reached reached' same closed closed' X X' o w len old =
+pub cuts_agree : CutsAgree
+cuts_agree h k reached reached' same closed closed' X X' o w len old =
     let orderly = accepted_is_orderly h.events reached.lawful.accepted in
     let orderly' = accepted_is_orderly k.events reached'.lawful.accepted in
     let X-is = sets h k reached reached' X X' o in

@@ -96,9 +96,9 @@ module _ (indexes : Row) (c : Comparison) (bounds : Row) where
     ended n e = rw (within-row n, ← e) so_far
 
 -- rows that have the indexes and bounds of a trace at its nodes have its comparisons
-pub rows-compared : {o : ℕ → Option ℕ} {bound : ℕ → ℕ} (n : ℕ) (indexes : Row) (c : Comparison) (bounds : Row) →
+pub rows_compared : {o : ℕ → Option ℕ} {bound : ℕ → ℕ} (n : ℕ) (indexes : Row) (c : Comparison) (bounds : Row) →
     ((i : ℕ) → is_node n i ≡ true → present (at_node indexes i) ≡ o i) → ((i : ℕ) → is_node n i ≡ true → at_node bounds i ≡ bound i) →
     row_comparisons indexes c bounds n ≡ comparisons o (λ i k. outcome c k (bound i)) n
-rows-compared {o} n indexes c bounds index_is bound-is =
+rows_compared {o} n indexes c bounds index_is bound-is =
     let node : (i : ℕ) → 1 ≤ i → i ≤ n → is_node n i ≡ true = λ i l m. and_from _ _ (le-leb 1 i l) (le-leb i n m) in
     comparisons_agree _ o _ _ n (λ i l m. (index_is i (node i l m), λ k. ap (outcome c k) (bound-is i (node i l m))))

@@ -1,5 +1,5 @@
 use Rattle.agreement.proofs.cuts_agree.Goals as goal
-use Rattle.agreement.proofs.Rows.{cuts-agree}
+use Rattle.agreement.proofs.Rows.{cuts_agree}
 
 pub returns : goal.returns
-returns c = cuts-agree
+returns c = cuts_agree

@@ -1,5 +1,5 @@
 use Rattle.agreement.proofs.relations_agree.Goals as goal
-use Rattle.agreement.proofs.Relating.{relations-agree}
+use Rattle.agreement.proofs.Relating.{relations_agree}
 
 pub returns : goal.returns
-returns c = relations-agree
+returns c = relations_agree
