@@ -157,7 +157,7 @@ def main():
         if text != old:
             with open(p, "w", encoding="utf-8") as f:
                 f.write(text)
-    for p in ["README.md"] + sorted(os.path.join("docs", n) for n in os.listdir("docs") if n.endswith(".md")):
+    for p in ["README.md"] + sorted(os.path.join("docs", n) for n in os.listdir("docs") if n.endswith(".md") and n != "PORT.md"):
         old = read(p)
         text = re.sub(r"`[^`\n]+`", lambda m: TOKEN.sub(own, m[0]), old)
         if text != old:

@@ -1,7 +1,8 @@
 -- What order, relate, stamp and cut answer by the history alone, and that histories with equal columns answer alike.
 --
 -- Two histories of one job may have its events in another order, as they arrived. Each node's own events are the same, in
--- the same order: the columns are equal. Then every answer is the same, and every refusal of these calls.
+-- the same order: the columns are equal. Then these calls have the same answers, and the same refusals: order always, relate and cut
+-- where both traces are closed, a stamp where both are open or neither is.
 --
 --   Reached h                what holds of every history that calls leave: it is lawful, and operations have members, which are events
 --   SameColumns h k          neither history is idle, they have as many nodes, and each node has the same column in both

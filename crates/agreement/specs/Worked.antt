@@ -8,7 +8,7 @@
 --   traced               the job's eight events
 --   whole                after one more receive, which is refused, the trace is closed, and three operations are gathered:
 --                        SETUP of 1.2 and 2.1, PICK of 3.2, REST of 1.3
---   rearrived            the same job as it arrived at another time: node 1's message later, node 3 behind
+--   rearrived            the same job as it arrived at another time: node 2's message first, node 1's last event before those of node 3
 use Rattle.std.specs.Prelude.{◌≡◌, ℕ, true, false, List, [], ◌∷◌, Some, Ok, codes}
 use Rattle.causality.specs.declared.CausalOrder.{CausalOrder}
 use Rattle.causality.specs.declared.Place.{Place}

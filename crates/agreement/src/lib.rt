@@ -12,17 +12,17 @@ pub fn orders_agree()
     ensures { OrdersAgree }
 {}
 
-/// Equal columns: operations at the same places are related alike, with the same steps, or refused alike.
+/// Equal columns of closed traces: operations at the same places are related alike, with the same steps, or refused alike.
 pub fn relations_agree()
     ensures { RelationsAgree }
 {}
 
-/// Equal columns: a timestamp leaves the same row.
+/// Equal columns, both traces open or neither: a timestamp leaves the same row.
 pub fn stamps_agree()
     ensures { StampsAgree }
 {}
 
-/// Equal columns: a cut of operations at the same places leaves the same row.
+/// Equal columns of closed traces: a cut of operations at the same places leaves the same row.
 pub fn cuts_agree()
     ensures { CutsAgree }
 {}

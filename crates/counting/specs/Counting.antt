@@ -4,7 +4,7 @@
 --   count_row μ e    the counts of entry e at the nodes 1 to 16
 --   or_zeros o       a row, or zeros where there is none
 --   Joint f μ es r   r is none if there are no entries es; else at each node it joins by f the counts of all of them
---   JointRow f of es r   at each node, r joins by f the numbers of the rows that `of` gives of the entries es
+--   JointRow f of es r   at each node, r joins by f the numbers of the rows that `of` gives of the entries es, if there are any
 use Rattle.std.specs.Prelude.{◌≡◌, ℕ, suc, ◌<◌, List, [], ◌∷◌, replicate, Some, None, Option, slice_index}
 use Rattle.causality.specs.Relations.{joined}
 use Rattle.clock.specs.Meaning.{Meaning, counted}

@@ -1,5 +1,6 @@
 -- What holds of the operations of every history that calls leave: each has at least one member, and its members are events of
--- the trace. The relations between operations are asked of such sets alone.
+-- the trace. The relations between operations are asked of such sets alone. A list stands for a set: an event that two places
+-- name is in it twice, which no relation can tell.
 --
 --   Members vs xs       xs is a set of events of the trace vs: not empty, and all of them there
 --   MembersHeld h       that of each operation of the history

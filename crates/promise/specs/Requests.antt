@@ -2,8 +2,8 @@
 --
 --   call_of q            the call that a request makes
 --   lent_of q            the row that it lends, and lent_length l how many numbers of it
---   written h c old      what the call c, found at the history h, makes of the numbers that it is lent: a stamp or a cut that is
---                        accepted writes its n numbers at the front, and nothing else is altered
+--   written h c old      what the call c, found at the history h, makes of the numbers that it is lent: a stamp that is accepted
+--                        writes its n numbers at the front, and nothing else is altered
 --   left_by h q          the whole row after the request
 --   Right h c v          v is the answer of the accepted call c; no request makes a gather, a cut or a relate
 --   Performed h q a h'   the request q, found at the history h, was answered by a and left the history h'

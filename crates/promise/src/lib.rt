@@ -1,4 +1,5 @@
-//! The whole promise of the correlator, on a call that runs: two correlators on any four clocks, each given any list of calls.
+//! The promise of the correlator, whole for the calls that there are, on a call that runs: two correlators on any four clocks,
+//! each given any list of calls.
 //!
 //! `specs/Promise.antt` states it.
 #![tactic(auto)]

@@ -1,5 +1,5 @@
 -- What the rows of an operation's record promise: the first and last indexes and the four cuts of its members, as the
--- causal theory defines them. The tests of the relations and the rows of cuts rest on this alone, and on no clock.
+-- causal theory defines them. The tests of the relations rest on this alone, and on no clock.
 --
 --   at_node row i        the number that a row has for node i, counted from 1
 --   present k            an index, where 0 stands for none

@@ -3,7 +3,7 @@
 --   own_count μ v e i            the count of entry e, which is event v, at node i if it stands there, else 0: its index there
 --   row_in μ view e              the row of member e: its counts, its own counts, or its counts numbered from the last
 --   column_length μ ρ total i    how many events node i has: the reverse clock's first entry there, of which μ counts all before it
---   from_column_end l c          one more than the length l, less c
+--   from_column_end l c          one more than the length l, at most 65,535, less c; no column is that long
 use Rattle.std.specs.Prelude.{ℕ, ◌+◌, ◌-◌, min, cond, List, length, Some, None, Option, nat_lt, slice_index_or}
 use Rattle.causality.specs.declared.Event.{Event}
 use Rattle.causality.specs.Entries.{at_either}
