@@ -6,7 +6,7 @@
 
 ghost use Rattle.causality.specs.Limits.{is_relation, relation_number};
 ghost use Rattle.causality.specs.Traces.{node_of, partner_of};
-ghost use Rattle.std.specs.Prelude.{◌≡◌, true, false, MatchOption};
+ghost use Rattle.std.specs.Prelude.{◌≡◌, true, false, MatchResult};
 
 pub mod theorems;
 
@@ -41,10 +41,7 @@ impl Event {
         ensures { result ≡ node_of self }
     {
         match self {
-            Event::Local(a) => a,
-            Event::Send(a, _) => a,
-            Event::Receive(a, _) => a,
-            Event::Meet(a, _) => a,
+            Event::Local(a) | Event::Send(a, _) | Event::Receive(a, _) | Event::Meet(a, _) => a,
         }
     }
 
@@ -53,9 +50,7 @@ impl Event {
         ensures { result ≡ partner_of self }
     {
         match self {
-            Event::Local(_) => None,
-            Event::Send(_, _) => None,
-            Event::Receive(_, _) => None,
+            Event::Local(_) | Event::Send(_, _) | Event::Receive(_, _) => None,
             Event::Meet(_, b) => Some(b),
         }
     }
@@ -70,50 +65,49 @@ pub enum CausalOrder {
     Concurrent,
 }
 
-/// A relation between two sets of events X and Y. "x to y" means that x is y or happened before y.
+/// A relation between two sets of events X and Y, with its number. "x to y" means that x is y or happened before y.
 #[derive(Clone, Copy, PartialEq, Eq, Debug)]
 pub enum Relation {
-    /// 1: every x to every y.
-    R1,
-    /// 2: every x to some y.
-    R2,
-    /// 3: some one y has every x to it.
-    R2P,
-    /// 4: some one x goes to every y.
-    R3,
-    /// 5: every y has some x to it.
-    R3P,
-    /// 6: some x to some y.
-    R4,
+    /// every x to every y.
+    R1 = 1,
+    /// every x to some y.
+    R2 = 2,
+    /// some one y has every x to it.
+    R2P = 3,
+    /// some one x goes to every y.
+    R3 = 4,
+    /// every y has some x to it.
+    R3P = 5,
+    /// some x to some y.
+    R4 = 6,
 }
 
-impl Relation {
-    /// The number of the relation.
-    pub fn number(self) -> u16
-        ensures { result ≡ relation_number self }
-    {
-        match self {
-            Relation::R1 => 1,
-            Relation::R2 => 2,
-            Relation::R2P => 3,
-            Relation::R3 => 4,
-            Relation::R3P => 5,
-            Relation::R4 => 6,
-        }
-    }
+impl From<Relation> for u16 {
+    ghost from_gives = { λ r n. n ≡ relation_number r };
 
-    /// The relation of a number, if it has one.
-    pub fn of_number(n: u16) -> Option<Relation>
-        ensures { MatchOption result (is_relation n ≡ false) (λ x. (is_relation n ≡ true) × (relation_number x ≡ n)) }
-    {
-        match n {
-            1 => Some(Relation::R1),
-            2 => Some(Relation::R2),
-            3 => Some(Relation::R2P),
-            4 => Some(Relation::R3),
-            5 => Some(Relation::R3P),
-            6 => Some(Relation::R4),
-            _ => None,
+    fn from(relation: Relation) -> u16 {
+        relation as u16
+    }
+}
+
+/// A number that no relation has.
+#[derive(Clone, Copy, PartialEq, Eq, Debug)]
+pub struct UnknownRelation(pub u16);
+
+impl TryFrom<u16> for Relation {
+    type Error = UnknownRelation;
+
+    ghost try_from_gives = { λ n r. MatchResult r (λ x. (is_relation n ≡ true) × (relation_number x ≡ n)) (λ e. (is_relation n ≡ false) × (e.0 ≡ n)) };
+
+    fn try_from(number: u16) -> Result<Relation, UnknownRelation> {
+        match number {
+            1 => Ok(Relation::R1),
+            2 => Ok(Relation::R2),
+            3 => Ok(Relation::R2P),
+            4 => Ok(Relation::R3),
+            5 => Ok(Relation::R3P),
+            6 => Ok(Relation::R4),
+            _ => Err(UnknownRelation(number)),
         }
     }
 }
