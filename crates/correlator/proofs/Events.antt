@@ -1,55 +1,65 @@
 -- What an accepted event does to the forward clock and to the history, whatever its kind.
-use Rattle.std.proofs.Common.{◌≡◌, ℕ, suc, ◌<◌, Bool, true, false, cond, ◌&&◌, ltb, List, [], ◌∷◌, length, Some, None, Ok, Option, sym, refl, ap, ◌∙◌, subst, inl, arith}
-use Rattle.std.specs.Option.{option_to_list}
-use Rattle.std.proofs.lemmas.Bool.{cond-true, and_from, not_from_false, or_left, lt-ltb, leb-false, eq-eqb}
-use Rattle.clock.specs.declared.Clock.{Ghosts}
+use Rattle.std.proofs.Common.{◌≡◌, ℕ, suc, ◌<◌, Bool, true, false, cond, not, ◌&&◌, ltb, List, [], ◌∷◌, length, Some, None, Option, sym, refl, ap, ◌∙◌, subst, ap₂, arith}
+use Rattle.std.specs.Option.{option_to_list, unwrap_or}
+use Rattle.std.proofs.lemmas.Bool.{cond-true, and_from, or_left, lt-ltb, leb-false, eq-eqb, false≢true}
 use Rattle.causality.specs.declared.Event.{Event}
-use Rattle.causality.specs.declared.Place.{Place}
 use Rattle.causality.specs.Limits.{is_node}
-use Rattle.causality.specs.Newest.{numbers, Mem}
+use Rattle.causality.specs.Newest.{numbers}
 use Rattle.causality.specs.Entries.{Entry, stamp}
-use Rattle.causality.specs.Traces.{node_of, partner_of, from, stands, entries, forward}
+use Rattle.causality.specs.Traces.{node_of, partner_of, sends, from, stands, was_sent, entries, forward}
 use Rattle.causality.specs.Columns.{next_index}
-use Rattle.causality.proofs.Newest.{numbers-low, length-picked}
+use Rattle.causality.proofs.Newest.{length-picked}
 use Rattle.causality.proofs.Counts.{stamps_grow}
 use Rattle.causality.proofs.Traces.{length-entries, timeline-events}
-use Rattle.clock.specs.Meaning.{Meaning, if_given, taken, counted}
+use Rattle.clock.specs.Meaning.{Meaning, taken, counted}
 use Rattle.clock.specs.Takes.{meaning}
-use Rattle.clock.proofs.Takes.{meanings_grow, meanings_answer, length-entries as length_held}
-use Rattle.history.specs.declared.refusal.Refusal.{Refusal}
+use Rattle.clock.proofs.Takes.{meanings_answer}
 use Rattle.history.specs.History.{History, is_closed, is_none}
-use Rattle.history.specs.Calls.{Call, refusal, after, with_event}
-use Rattle.history.specs.Answers.{Obeys, next_place}
-use Rattle.history.specs.Lawful.{Fits, Lawful}
-use Rattle.history.proofs.Lawful.{May, may_lawful}
-use Rattle.correlator.specs.declared.state.Correlator.{Correlator}
+use Rattle.history.specs.Calls.{Call, refusals, refusal, with_event}
+use Rattle.history.specs.Lawful.{Lawful}
+use Rattle.history.proofs.Lawful.{May, may_lawful, may_local, may_send, may_receive, may_meet}
+use Rattle.history.proofs.Passed.{passed}
+use Rattle.records.specs.declared.messages.Sent.{Sent}
 use Rattle.records.specs.Messages.{sent_of}
-use Rattle.correlator.specs.Posted.{posted}
+use Rattle.feeding.specs.Posted.{posted}
+use Rattle.feeding.proofs.Posts.{posted-sent}
+use Rattle.feeding.proofs.Taking.{taken-entry, numbers_never}
 use Rattle.counting.specs.Counting.{or_zero}
-use Rattle.correlator.specs.State.{history, fed, fed_back, Sound, Appended}
-use Rattle.correlator.proofs.Kept.{kept-length}
+use Rattle.correlator.specs.declared.trace.Trace.{Trace}
+use Rattle.history.specs.Answers.{next_place}
+use Rattle.correlator.specs.Told.{Told, history}
+use Rattle.correlator.specs.Trace.{told, traced, noted}
+use Rattle.correlator.specs.Sound.{fed, fed_back, Sound, Next}
+use Rattle.correlator.proofs.Refusals.{told-length}
 
-held_low : (p : Event → Bool) (vs : List Event) (m : Option ℕ) → option_to_list m ≡ numbers p vs → if_given (λ e. ltb e (length vs)) m ≡ true
-held_low p vs None e = refl
-held_low p vs (Some x) e = lt-ltb x (length vs) (numbers-low p vs x (subst (Mem x) e (inl refl)))
+-- a count that is absent counts as none
+pub unwrapped : (o : Option ℕ) → unwrap_or o 0 ≡ or_zero o
+unwrapped None = refl
+unwrapped (Some k) = refl
 
--- a clock that took some events of a trace, in whatever direction, accepts the next one
-pub taken-entry : (n : ℕ) (goes : Event → Event → Bool) (v : Event) (vs : List Event) (m : Option ℕ) → Fits n v → length vs < 512 → option_to_list m ≡ numbers (goes v) vs →
-    taken (meaning n (entries goes vs)) (node_of v) (partner_of v) m ≡ meaning n (entries goes (v ∷ vs))
-taken-entry n goes v vs m fits room priors =
-    let long = length_held (entries goes vs) ∙ length-entries goes vs in
-    let low = held_low (goes v) vs m priors in
-    (meanings_grow n (entries goes vs) (node_of v) (partner_of v) m
-    (and_from _ _ (lt-ltb _ 512 (omega (arith, long, room)))
-    (and_from _ _ fits.here (and_from _ _ fits.there (and_from _ _ (not_from_false _ fits.apart) (rw long low)))))).0
-    ∙ ap (λ (ps : List ℕ). meaning n (record { node = node_of v; partner = partner_of v; priors = ps } ∷ entries goes vs)) priors
+-- ---- which calls bring an event that may be next
+
+module _ (h : History) where
+  pub next_local : (a : ℕ) → refusal h (Call.local a) ≡ None → Next h (Event.Local a) None
+  next_local a free = record { may = may_local h a free; unclosed = (passed (refusals h (Call.local a)) free).1.0; follows = sym (numbers_never h.events) }
+
+  pub next_send : (a m : ℕ) → refusal h (Call.send a m) ≡ None → Next h (Event.Send a m) None
+  next_send a m free = record { may = may_send h a m free; unclosed = (passed (refusals h (Call.send a m)) free).1.0; follows = sym (numbers_never h.events) }
+
+  pub next_receive : (a m e : ℕ) → refusal h (Call.receive a m) ≡ None → option_to_list (Some e) ≡ numbers (λ w. from (Event.Receive a m) w) h.events → Next h (Event.Receive a m) (Some e)
+  next_receive a m e free sender = record { may = may_receive h a m free; unclosed = (passed (refusals h (Call.receive a m)) free).1.0; follows = sender }
+
+  pub next_meet : (a b : ℕ) → refusal h (Call.meet a b) ≡ None → Next h (Event.Meet a b) None
+  next_meet a b free = record { may = may_meet h a b free; unclosed = (passed (refusals h (Call.meet a b)) free).1.0; follows = sym (numbers_never h.events) }
+
+-- ---- what such an event does
 
 module _ (h : History) (v : Event) (may : May h v) where
-  takes_it : (m : Option ℕ) → option_to_list m ≡ numbers (from v) h.events → taken (fed h) (node_of v) (partner_of v) m ≡ fed (with_event h v)
+  pub takes_it : (m : Option ℕ) → option_to_list m ≡ numbers (from v) h.events → taken (fed h) (node_of v) (partner_of v) m ≡ fed (with_event h v)
   takes_it m priors = taken-entry h.nodes from v h.events m may.fits (leb-false 512 (length h.events) may.room) priors
 
   -- and counts it behind all events of its node
-  new_index : or_zero (counted (fed (with_event h v)) (length h.events) (node_of v)) ≡ next_index h.events (node_of v)
+  pub new_index : or_zero (counted (fed (with_event h v)) (length h.events) (node_of v)) ≡ next_index h.events (node_of v)
   new_index =
       let vs = h.events in
       let a = node_of v in
@@ -66,33 +76,45 @@ module _ (h : History) (v : Event) (may : May h v) where
 still : (h : History) (v : Event) → is_closed h.stage ≡ false → fed_back h ≡ fed_back (with_event h v)
 still h v unclosed = rw unclosed refl
 
--- an accepted call, from its parts
-pub obeyed : {X : Type 0} (h h' : History) (k : Call) (x : X) (Right : X → Type 0) → refusal h k ≡ None → h' ≡ after h k → Right x → Obeys h k (Ok x) Right h'
-obeyed h h' k x Right free leaves right =
-    record { refuses = sym free; leaves = leaves ∙ ap (λ (o : Option Refusal). cond (is_none o) (after h k) h) (sym free); answers = right }
+posted-none : (vs : List Event) (m : ℕ) → was_sent vs m ≡ false → posted vs m ≡ None
+posted-none vs m e = none (posted vs m) (posted-sent vs m ∙ e)
+  where
+    none : (o : Option Sent) → not (is_none o) ≡ false → o ≡ None
+    none None h = refl
+    none (Some s) h = absurd (false≢true (sym h))
 
--- an accepted event call: c₁ is what `append` left, and c' is that with the table brought up to date
-module _ {X Y : Type 0} {F : Ghosts X} {R : Ghosts Y} (f : X → Meaning) (r : Y → Meaning) (c c₁ c' : Correlator X Y F R) (v : Event) (m : Option ℕ) (p : Place) (k : Call) where
-  pub event_done : Sound f r c → Appended f c c₁ v m p → May (history c) v → is_closed c.stage ≡ false → option_to_list m ≡ numbers (from v) (history c).events →
-      refusal (history c) k ≡ None → after (history c) k ≡ with_event (history c) v →
-      c'.forward ≡ c₁.forward → c'.reverse ≡ c₁.reverse → history c' ≡ history c₁ → ((j : ℕ) → sent_of c'.sent j ≡ posted (v ∷ (history c).events) j) →
-      Sound f r c' × Obeys (history c) k (Ok p) (λ q. q ≡ next_place (history c) (node_of v)) (history c')
-  event_done sound done may unclosed priors free leaves ahead back same posts =
-      let h = history c in
-      let took : f c₁.forward ≡ fed (with_event h v) = done.fed_on ∙ ap (λ (x : Meaning). taken x (node_of v) (partner_of v) m) sound.ahead ∙ takes_it h v may m priors in
-      let grown : history c' ≡ with_event h v = same ∙ done.grown in
-      let number = sym (kept-length c.len c.events c.long c.within) in
-      let index = ap (λ (x : Meaning). or_zero (counted x c.len (node_of v))) took ∙ ap (λ (n : ℕ). or_zero (counted (fed (with_event h v)) n (node_of v))) number ∙ new_index h v may in (
-        record {
-          ahead = ap f ahead ∙ took ∙ ap fed (sym grown);
-          back = ap r (back ∙ done.back) ∙ sound.back ∙ still h v unclosed ∙ ap fed_back (sym grown);
-          lawful = subst Lawful (sym grown) (may_lawful h v sound.lawful may);
-          posts = λ j. posts j ∙ ap (λ (x : History). posted x.events j) (sym grown);
-        },
-        obeyed h (history c') k p (λ q. q ≡ next_place h (node_of v)) free (grown ∙ sym leaves) (done.place ∙ ap (λ (n : ℕ). record { node = node_of v; index = n }) index),
-      )
+-- the trace t was told `seen`; an event v that may be next goes to a clock at node n, and at node b if given
+module _ (ahead back : Meaning) (t : Trace) (sound : Sound ahead back t) (seen : Told) (is : told t ≡ seen) (v : Event) (m : Option ℕ) (next : Next (history seen) v m) where
+  here : Next (traced t) v m
+  here = subst (λ (x : Told). Next (history x) v m) (sym is) next
 
--- an event that receives nothing follows no other by a message
-pub numbers_never : (vs : List Event) → numbers (λ w. false) vs ≡ []
-numbers_never [] = refl
-numbers_never (v ∷ vs) = numbers_never vs
+  -- the message that it sends is new
+  pub unsent : (k : ℕ) → sends v ≡ Some k → sent_of t.sent k ≡ None
+  unsent k e = sound.posts k ∙ posted-none (told t).events k (here.may.unsent k e)
+
+  module _ (n : ℕ) (b : Option ℕ) (at-n : n ≡ node_of v) (at-b : b ≡ partner_of v) (ahead' : Meaning) (fed-on : ahead' ≡ taken ahead n b m) where
+    took : ahead' ≡ fed (with_event (traced t) v)
+    took =
+        fed-on ∙ ap₂ (λ (i : ℕ) (j : Option ℕ). taken ahead i j m) at-n at-b
+        ∙ ap (λ (μ : Meaning). taken μ (node_of v) (partner_of v) m) sound.follows ∙ takes_it (traced t) v here.may m here.follows
+
+    pub sound_next : (t' : Trace) → traced t' ≡ with_event (traced t) v → ((k : ℕ) → sent_of t'.sent k ≡ noted v t.len (sent_of t.sent) k) → Sound ahead' back t'
+    sound_next t' grown sets =
+        let h = traced t in record {
+          follows = took ∙ ap fed (sym grown);
+          returns = sound.returns ∙ still h v here.unclosed ∙ ap fed_back (sym grown);
+          lawful = subst Lawful (sym grown) (may_lawful h v sound.lawful here.may);
+          posts = λ k. sets k ∙ noted-posted k ∙ ap (λ (x : History). posted x.events k) (sym grown);
+        }
+      where
+        noted-posted : (k : ℕ) → noted v t.len (sent_of t.sent) k ≡ posted (v ∷ (told t).events) k
+        noted-posted k = rw (sound.posts k) (ap (λ (l : ℕ). noted v l (posted (told t).events) k) (sym (told-length t)))
+
+    pub placed : (count : Option ℕ) (index : ℕ) → count ≡ counted ahead' t.len n → index ≡ unwrap_or count 0 →
+        record { node = n; index = index } ≡ next_place (history seen) (node_of v)
+    placed count index counts is-count =
+        let h = traced t in
+        let counted-here : index ≡ next_index (told t).events (node_of v) =
+        is-count ∙ unwrapped count ∙ ap or_zero (counts ∙ ap₂ (λ (μ : Meaning) (i : ℕ). counted μ t.len i) took at-n)
+        ∙ ap (λ (l : ℕ). or_zero (counted (fed (with_event h v)) l (node_of v))) (sym (told-length t)) ∙ new_index h v here.may in
+        ap₂ (λ (i k : ℕ). record { node = i; index = k }) at-n counted-here ∙ ap (λ (x : Told). next_place (history x) (node_of v)) is

@@ -1,5 +1,2 @@
-pub mod Kept
-pub mod Posts
+pub mod Refusals
 pub mod Events
-pub mod Questions
-pub mod Backs

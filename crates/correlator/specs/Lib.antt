@@ -1,2 +1,4 @@
-pub mod Posted
-pub mod State
+pub mod Told
+pub mod Trace
+pub mod Sound
+pub mod Directions

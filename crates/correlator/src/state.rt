@@ -1,31 +1,29 @@
 //! What a correlator holds.
 
-ghost use Rattle.std.specs.Prelude.{◌≡◌, ◌≤◌, length};
-
-use causality::Event;
+use crate::trace::Trace;
 use clock::Clock;
-use history::Stage;
-use records::Messages;
+use std::marker::Model;
 
-pub mod checks;
 pub mod closing;
 pub mod events;
 pub mod questions;
 
-/// The length of the array of events.
-pub const EVENTS: usize = 512;
-
-/// A correlator over a forward and a reverse clock.
+/// A correlator over a forward and a reverse clock. To its callers it is what it was told of the trace.
 #[derive(Drop)]
 pub struct Correlator<F: Clock, R: Clock> {
+    trace: Trace,
     forward: F,
     reverse: R,
-    stage: Stage,
-    nodes: u16,
-    len: u16,
-    events: [Event; EVENTS],
-    sent: Messages,
-    ghost long: { length events ≡ 512 },
-    ghost within: { len ≤ 512 },
-    ghost fewer: { sent.len ≤ len },
+}
+
+impl<F: Clock, R: Clock> Model for Correlator<F, R> {
+    ghost use Rattle.correlator.specs.Told.{Told};
+    ghost use Rattle.correlator.specs.Trace.{told};
+    ghost use Rattle.correlator.specs.Sound.{Sound};
+
+    ghost Value = { Told };
+
+    ghost view = { λ c. told c.trace };
+
+    ghost invariant = { λ c. Sound (F.Clock.means c.forward) (R.Clock.means c.reverse) c.trace };
 }

@@ -1,110 +1,135 @@
 //! Questions about the trace: the order of two events, and an event's vector timestamp.
 
-ghost use Rattle.std.specs.Prelude.{◌≡◌, ◌≤◌, length, IfOk, Some, OnOk, ◌==◌};
-ghost use Rattle.correlator.specs.State.{Sound, choose, counts, found_at, history, order_tests, stamp_tests};
-ghost use Rattle.history.specs.Answers.{Obeys, OrderOf, reason, stamped};
-ghost use Rattle.history.specs.Calls.{Call, first_that};
+ghost use Rattle.std.specs.Prelude.{◌≡◌, ◌≤◌, length, Decides, IfOk, MatchResult, OnOk, Some, None};
+ghost use Rattle.causality.specs.Relations.{To};
+ghost use Rattle.correlator.specs.Directions.{Selects, direction_number};
+ghost use Rattle.correlator.specs.Told.{history};
+ghost use Rattle.history.specs.Answers.{Compared, Obeys, OrderOf, reason, stamped};
+ghost use Rattle.history.specs.Calls.{Call, refusal};
+ghost use Rattle.history.specs.History.{named};
 
 use super::Correlator;
 use causality::{CausalOrder, Place};
 use clock::Clock;
-use counting::{or_zero, write_counts};
+use counting::write_counts;
 use history::{Refusal, Stage};
 
-/// A forward timestamp counts the events that happened before.
-pub const FORWARD: u16 = 1;
-/// A reverse timestamp counts those that happened after.
-pub const REVERSE: u16 = 2;
+/// Which of the two timestamps of an event.
+#[derive(Clone, Copy, PartialEq, Eq, Debug)]
+pub enum Direction {
+    /// It counts the events that happened before.
+    Forward = 1,
+    /// It counts those that happened after.
+    Reverse = 2,
+}
+
+impl TryFrom<u16> for Direction {
+    type Error = Refusal;
+
+    ghost try_from_gives = { Selects };
+
+    fn try_from(number: u16) -> Result<Direction, Refusal> {
+        match number {
+            1 => Ok(Direction::Forward),
+            2 => Ok(Direction::Reverse),
+            _ => Err(Refusal::BadSelector),
+        }
+    }
+}
+
+// A place, and the number of the event that it names.
+#[derive(Clone, Copy)]
+struct Found {
+    place: Place,
+    event: u16,
+}
 
 impl<F: Clock, R: Clock> Correlator<F, R> {
     /// How the event at p stands to the event at q.
     pub fn order(&self, p: Place, q: Place) -> Result<CausalOrder, Refusal>
-        ensures { Sound F.Clock.means R.Clock.means self.now → Obeys (history self.now) (Call.order p q) result (OrderOf (history self.now) p q) (history self.now) }
+        ensures { Obeys (history self.now) (Call.order p q) result (OrderOf (history self.now) p q) (history self.now) }
     {
-        let (x, y) = self.check_order(p, q)?;
-        Ok(self.compare(p, x, q, y))
+        if let Stage::Idle = self.trace.stage {
+            return Err(Refusal::Idle);
+        }
+        let x = self.find(p)?;
+        let y = self.find(q)?;
+        Ok(self.compare(x, y))
     }
 
     /// Writes the timestamp of the event at p, forward (1) or reverse (2), into the first n numbers of a row.
     pub fn stamp(&self, p: Place, d: u16, row: &mut [u16]) -> Result<(), Refusal>
-        ensures { Sound F.Clock.means R.Clock.means self.now → Obeys (history self.now) (Call.stamp p d (length row.old)) result (λ _. Unit {0}) (history self.now) × (row.new ≡ stamped (history self.now) p d (length row.old) row.old) }
+        ensures obeys { Obeys (history self.now) (Call.stamp p d (length row.old)) result (λ _. Unit {0}) (history self.now) }
+        ensures stamped { row.new ≡ stamped (history self.now) p d (length row.old) row.old }
     {
-        let x = self.check_stamp(p, d, row.len())?;
-        if d == FORWARD {
-            write_counts(&self.forward, x, self.nodes, row);
-        } else {
-            write_counts(
+        let (direction, x) = self.check_stamp(p, d, row.len())?;
+        match direction {
+            Direction::Forward => write_counts(&self.forward, x.event, self.trace.nodes, row),
+            Direction::Reverse => write_counts(
                 &self.reverse,
-                self.len.saturating_sub(1).saturating_sub(x),
-                self.nodes,
+                self.trace.from_last(x.event),
+                self.trace.nodes,
                 row,
-            );
+            ),
         }
         Ok(())
     }
 
-    // The refusals of an order, or the events at the two places.
-    fn check_order(&self, p: Place, q: Place) -> Result<(u16, u16), Refusal>
-        ensures first { reason result ≡ first_that (order_tests F.Clock.means self.now p q) }
-        ensures first_event { IfOk result (λ e. found_at (F.Clock.means self.now.forward) p ≡ Some e.0) }
-        ensures second_event { IfOk result (λ e. found_at (F.Clock.means self.now.forward) q ≡ Some e.1) }
-    {
-        if let Stage::Idle = self.stage {
-            return Err(Refusal::Idle);
-        }
-        let Some(x) = self.forward.at(p.node, p.index) else {
-            return Err(Refusal::NoEvent);
-        };
-        let Some(y) = self.forward.at(q.node, q.index) else {
-            return Err(Refusal::NoEvent);
-        };
-        Ok((x, y))
-    }
-
-    // The refusals of a stamp, or the event at the place.
-    fn check_stamp(&self, p: Place, d: u16, len: usize) -> Result<u16, Refusal>
-        ensures first { reason result ≡ first_that (stamp_tests F.Clock.means self.now p d len) }
-        ensures event { IfOk result (λ x. found_at (F.Clock.means self.now.forward) p ≡ Some x) }
+    // The refusals of a stamp, or the direction and the event that it asks for.
+    fn check_stamp(&self, p: Place, d: u16, len: usize) -> Result<(Direction, Found), Refusal>
+        ensures first { reason result ≡ refusal (history self.now) (Call.stamp p d len) }
+        ensures direction { IfOk result (λ x. direction_number x.0 ≡ d) }
+        ensures found { IfOk result (λ x. named (history self.now) p ≡ Some x.1.event) }
         ensures room { OnOk result (self.now.nodes ≤ len) }
     {
-        if let Stage::Idle = self.stage {
+        if let Stage::Idle = self.trace.stage {
             return Err(Refusal::Idle);
         }
-        if d != FORWARD && d != REVERSE {
-            return Err(Refusal::BadSelector);
+        let direction = Direction::try_from(d)?;
+        if let (Stage::Open, Direction::Reverse) = (self.trace.stage, direction) {
+            return Err(Refusal::Open);
         }
-        if let Stage::Open = self.stage {
-            if d == REVERSE {
-                return Err(Refusal::Open);
-            }
-        }
-        let Some(x) = self.forward.at(p.node, p.index) else {
-            return Err(Refusal::NoEvent);
-        };
-        if len < self.nodes as usize {
+        let x = self.find(p)?;
+        if len < self.trace.nodes as usize {
             return Err(Refusal::ShortRow);
         }
-        Ok(x)
+        Ok((direction, x))
     }
 
-    // The order of event x, at p, to event y, at q: a place lies in a past exactly if its index is counted there.
-    fn compare(&self, p: Place, x: u16, q: Place, y: u16) -> CausalOrder
-        ensures { result ≡ choose (x == y) (counts (F.Clock.means self.now.forward) p y) (counts (F.Clock.means self.now.forward) q x) }
+    // The event that a place names.
+    fn find(&self, place: Place) -> Result<Found, Refusal>
+        ensures { MatchResult result (λ x. (x.place ≡ place) × (named (history self.now) place ≡ Some x.event)) (λ e. (e ≡ Refusal.NoEvent) × (named (history self.now) place ≡ None)) }
     {
-        if x == y {
+        match self.forward.at(place.node, place.index) {
+            Some(event) => Ok(Found { place, event }),
+            None => Err(Refusal::NoEvent),
+        }
+    }
+
+    // The order of two events: a place lies in a past exactly if its index is counted there.
+    fn compare(&self, x: Found, y: Found) -> CausalOrder
+        requires x { named (history self.now) x.place ≡ Some x.event }
+        requires y { named (history self.now) y.place ≡ Some y.event }
+        ensures { Compared self.now.events x.event y.event result }
+    {
+        if x.event == y.event {
             CausalOrder::Same
-        } else if self.counts(p, y) {
+        } else if self.reaches(x, y) {
             CausalOrder::Before
-        } else if self.counts(q, x) {
+        } else if self.reaches(y, x) {
             CausalOrder::After
         } else {
             CausalOrder::Concurrent
         }
     }
 
-    fn counts(&self, p: Place, e: u16) -> bool
-        ensures { result ≡ counts (F.Clock.means self.now.forward) p e }
+    // Whether one event is the other or happened before it.
+    fn reaches(&self, x: Found, y: Found) -> bool
+        requires x { named (history self.now) x.place ≡ Some x.event }
+        requires y { named (history self.now) y.place ≡ Some y.event }
+        ensures { Decides result (To self.now.events x.event y.event) }
     {
-        p.index <= or_zero(self.forward.count(e, p.node))
+        let Place { node, index } = x.place;
+        index <= self.forward.count(y.event, node).unwrap_or(0)
     }
 }

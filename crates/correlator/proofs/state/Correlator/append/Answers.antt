@@ -1,19 +1,13 @@
-use Rattle.std.proofs.Common.{◌<◌, List, length, refl, ap, arith, rules}
-use Rattle.causality.specs.declared.Event.{Event}
-use Rattle.history.specs.History.{History, no_operations}
-use Rattle.correlator.proofs.Kept.{kept_more}
+use Rattle.correlator.proofs.Events.{unsent, sound_next, placed}
 use Rattle.correlator.proofs.state.Correlator.append.Goals as goal
 
-pub returns : goal.returns
-returns g c =
-    let s = c.args.self.now in
-    let room : s.len < length s.events = omega (arith, s.long, c.requires) in
-    let longer : List Event → History = λ vs. record { stage = s.stage; nodes = s.nodes; events = vs; operations = no_operations } in
-    record {
-      grown = ap longer (kept_more s.len s.events c.args.event room);
-      fed_on = search rules;
-      back = refl;
-      sent = refl;
-      more = refl;
-      place = search rules;
-    }
+pub push-requires-clause-fresh : goal.push-requires-clause-fresh
+push-requires-clause-fresh g c = unsent _ _ _ c.self.invariant _ c.self.view_is _ _ c.requires
+
+pub invariant_of-self : goal.invariant_of-self
+invariant_of-self g c =
+    sound_next _ _ _ c.self.invariant _ c.self.view_is _ _ c.requires _ _ c.node-node.ensures c.partner.ensures _ c.take.ensures.after _ c.push.ensures.grown c.push.ensures.sets
+
+pub returns-clause-place : goal.returns-clause-place
+returns-clause-place g c =
+    placed _ _ _ c.self.invariant _ c.self.view_is _ _ c.requires _ _ c.node-node.ensures c.partner.ensures _ c.take.ensures.after _ _ c.count.ensures c.unwrap_or-index.ensures

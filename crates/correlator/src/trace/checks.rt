@@ -1,23 +1,23 @@
-//! The refusals of each call, tried in order.
+//! The refusals of each event call, tried in order.
 
-ghost use Rattle.correlator.specs.Posted.{event_of};
-ghost use Rattle.correlator.specs.State.{history, local_tests, meet_tests, receive_tests, send_tests};
+ghost use Rattle.correlator.specs.Trace.{local_tests, meet_tests, receive_tests, send_tests, traced};
 ghost use Rattle.causality.specs.Limits.{max_events};
+ghost use Rattle.feeding.specs.Posted.{event_of};
 ghost use Rattle.history.specs.Answers.{reason};
 ghost use Rattle.history.specs.Calls.{first_that, in_trace};
 ghost use Rattle.history.specs.declared.refusal.Refusal.TheVariants.{Full};
 ghost use Rattle.records.specs.Messages.{sent_of};
 ghost use Rattle.std.specs.Prelude.{◌≡◌, [], ◌∷◌, IfOk, Some, nat_le};
 
-use super::Correlator;
+use super::Trace;
 use causality::MAX_EVENTS;
-use clock::{Clock, is_node};
+use clock::is_node;
 use history::{Refusal, Stage};
 
-impl<F: Clock, R: Clock> Correlator<F, R> {
+impl Trace {
     // An event may come, at nodes that fit.
-    fn check_trace(&self, nodes_fit: bool) -> Result<(), Refusal>
-        ensures { reason result ≡ first_that (in_trace (history self.now) nodes_fit []) }
+    fn check_open(&self, nodes_fit: bool) -> Result<(), Refusal>
+        ensures { reason result ≡ first_that (in_trace (traced self.now) nodes_fit []) }
     {
         match self.stage {
             Stage::Idle => return Err(Refusal::Idle),
@@ -40,41 +40,39 @@ impl<F: Clock, R: Clock> Correlator<F, R> {
         Ok(())
     }
 
-    // The refusals of a local event.
-    pub(crate) fn check_local(&self, a: u16) -> Result<(), Refusal>
+    /// The refusals of a local event.
+    pub fn check_local(&self, a: u16) -> Result<(), Refusal>
         ensures { reason result ≡ first_that (local_tests self.now a) }
     {
-        self.check_trace(is_node(self.nodes, a))?;
+        self.check_open(is_node(self.nodes, a))?;
         self.check_room()
     }
 
-    // The refusals of a send.
-    pub(crate) fn check_send(&self, a: u16, m: u16) -> Result<(), Refusal>
+    /// The refusals of a send.
+    pub fn check_send(&self, a: u16, m: u16) -> Result<(), Refusal>
         ensures { reason result ≡ first_that (send_tests self.now a m) }
     {
-        self.check_trace(is_node(self.nodes, a))?;
+        self.check_open(is_node(self.nodes, a))?;
         if m == 0 {
             return Err(Refusal::NoMessage);
         }
-        if let Some(_) = self.sent.find(m) {
+        if self.sent.find(m).is_some() {
             return Err(Refusal::SentBefore);
         }
         self.check_room()
     }
 
-    // The refusals of a receive, or the event that sent the message.
-    pub(crate) fn check_receive(&self, a: u16, m: u16) -> Result<u16, Refusal>
+    /// The refusals of a receive, or the event that sent the message.
+    pub fn check_receive(&self, a: u16, m: u16) -> Result<u16, Refusal>
         ensures first { reason result ≡ first_that (receive_tests self.now a m) }
         ensures sender { IfOk result (λ e. event_of (sent_of self.now.sent m) ≡ Some e) }
     {
-        self.check_trace(is_node(self.nodes, a))?;
+        self.check_open(is_node(self.nodes, a))?;
         if m == 0 {
             return Err(Refusal::NoMessage);
         }
-        let Some(sent) = self.sent.find(m) else {
-            return Err(Refusal::NotSent);
-        };
-        if let Some(_) = sent.receipt {
+        let sent = self.sent.find(m).ok_or(Refusal::NotSent)?;
+        if sent.receipt.is_some() {
             return Err(Refusal::ReceivedBefore);
         }
         if sent.node == a {
@@ -84,11 +82,11 @@ impl<F: Clock, R: Clock> Correlator<F, R> {
         Ok(sent.event)
     }
 
-    // The refusals of a meet.
-    pub(crate) fn check_meet(&self, a: u16, b: u16) -> Result<(), Refusal>
+    /// The refusals of a meet.
+    pub fn check_meet(&self, a: u16, b: u16) -> Result<(), Refusal>
         ensures { reason result ≡ first_that (meet_tests self.now a b) }
     {
-        self.check_trace(is_node(self.nodes, a) && is_node(self.nodes, b))?;
+        self.check_open(is_node(self.nodes, a) && is_node(self.nodes, b))?;
         if a == b {
             return Err(Refusal::SameNode);
         }

@@ -1,0 +1,12 @@
+-- The number of each direction of a timestamp.
+use Rattle.std.specs.Prelude.{◌≡◌, ℕ, false, ◌||◌, ◌==◌, Result, MatchResult}
+use Rattle.history.specs.declared.refusal.Refusal.{Refusal}
+use Rattle.correlator.specs.declared.state.questions.Direction.{Direction}
+
+abbrev pub direction_number : Direction → ℕ
+direction_number Direction.Forward = 1
+direction_number Direction.Reverse = 2
+
+-- a number selects the direction that has it; any other is a bad selector
+abbrev pub Selects : ℕ → Result Direction Refusal → Type 0
+Selects d r = MatchResult r (λ x. direction_number x ≡ d) (λ e. (e ≡ Refusal.BadSelector) × ((d == 1 || d == 2) ≡ false))

@@ -1,0 +1,78 @@
+//! Starting a trace, and adding events to it.
+
+ghost use Rattle.std.specs.Prelude.{◌≡◌, ℕ, ◌+◌, ◌-◌, ◌<◌, ◌≤◌, [], Some, None};
+ghost use Rattle.causality.specs.Traces.{sends};
+ghost use Rattle.correlator.specs.Trace.{noted, told, traced};
+ghost use Rattle.history.specs.Calls.{with_event};
+ghost use Rattle.history.specs.History.{idle};
+ghost use Rattle.records.specs.Messages.{sent_of};
+
+use super::{EVENTS, Trace};
+use causality::Event;
+use history::Stage;
+use records::{Messages, Sent};
+
+impl Trace {
+    /// No trace yet.
+    pub fn new() -> Trace
+        ensures idle { traced result ≡ idle }
+        ensures none { result.sent.len ≡ 0 }
+    {
+        Trace {
+            stage: Stage::Idle,
+            nodes: 1,
+            len: 0,
+            events: [Event::Local(0); EVENTS],
+            sent: Messages::new(),
+        }
+    }
+
+    /// Drops everything and opens an empty trace of n nodes.
+    pub fn start(&mut self, n: u16)
+        ensures empty { told self.new ≡ record { stage = Stage.Open; nodes = n; events = [] } }
+        ensures none { self.new.sent.len ≡ 0 }
+    {
+        self.stage = Stage::Open;
+        self.nodes = n;
+        self.len = 0;
+        self.sent.clear();
+    }
+
+    /// The entry of an event in a clock that takes the events from the last to the first.
+    pub fn from_last(&self, event: u16) -> u16
+        ensures { result ≡ self.now.len - 1 - event }
+    {
+        self.len.saturating_sub(1).saturating_sub(event)
+    }
+
+    /// Puts an event behind the others, and notes what it sends or receives.
+    pub fn push(&mut self, event: Event)
+        requires room { self.old.len < 512 }
+        requires fresh { (m : ℕ) → sends event ≡ Some m → sent_of self.old.sent m ≡ None }
+        ensures grown { traced self.new ≡ with_event (traced self.old) event }
+        ensures sets { (m : ℕ) → sent_of self.new.sent m ≡ noted event self.old.len (sent_of self.old.sent) m }
+    {
+        note(&mut self.sent, event, self.len);
+        self.events[self.len as usize] = event;
+        self.len += 1;
+    }
+}
+
+// Notes what an event of this number sends or receives.
+fn note(sent: &mut Messages, event: Event, number: u16)
+    requires room { sent.old.len < 512 }
+    requires fresh { (m : ℕ) → sends event ≡ Some m → sent_of sent.old m ≡ None }
+    ensures sets { (m : ℕ) → sent_of sent.new m ≡ noted event number (sent_of sent.old) m }
+    ensures few { sent.new.len ≤ sent.old.len + 1 }
+{
+    match event {
+        Event::Send(node, message) => sent.insert(Sent {
+            message,
+            node,
+            event: number,
+            receipt: None,
+        }),
+        Event::Receive(_, message) => sent.receive(message, number),
+        Event::Local(_) | Event::Meet(_, _) => {}
+    }
+}
