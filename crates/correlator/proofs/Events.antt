@@ -1,18 +1,17 @@
 -- What an accepted event does to the forward clock and to the history, whatever its kind.
-use Rattle.std.proofs.Common.{◌≡◌, ℕ, suc, ◌<◌, Bool, true, false, cond, not, ◌&&◌, ltb, List, [], ◌∷◌, length, Some, None, Option, sym, refl, ap, ◌∙◌, subst, ap₂, arith}
+use Rattle.std.proofs.Common.{◌≡◌, ℕ, suc, true, false, not, ◌&&◌, ltb, List, ◌∷◌, length, Some, None, Option, sym, refl, ap, ◌∙◌, subst, ap₂, arith}
 use Rattle.std.specs.Option.{option_to_list, unwrap_or}
 use Rattle.std.proofs.lemmas.Bool.{cond-true, and_from, or_left, lt-ltb, leb-false, eq-eqb, false≢true}
 use Rattle.causality.specs.declared.Event.{Event}
 use Rattle.causality.specs.Limits.{is_node}
 use Rattle.causality.specs.Newest.{numbers}
 use Rattle.causality.specs.Entries.{Entry, stamp}
-use Rattle.causality.specs.Traces.{node_of, partner_of, sends, from, stands, was_sent, entries, forward}
+use Rattle.causality.specs.Traces.{node_of, partner_of, sends, from, stands, was_sent, forward}
 use Rattle.causality.specs.Columns.{next_index}
 use Rattle.causality.proofs.Newest.{length-picked}
 use Rattle.causality.proofs.Counts.{stamps_grow}
 use Rattle.causality.proofs.Traces.{length-entries, timeline-events}
 use Rattle.clock.specs.Meaning.{Meaning, taken, counted}
-use Rattle.clock.specs.Takes.{meaning}
 use Rattle.clock.proofs.Takes.{meanings_answer}
 use Rattle.history.specs.History.{History, is_closed, is_none}
 use Rattle.history.specs.Calls.{Call, refusals, refusal, with_event}

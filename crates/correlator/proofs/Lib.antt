@@ -1,2 +1,4 @@
 pub mod Refusals
 pub mod Events
+pub mod Questions
+pub mod Closing

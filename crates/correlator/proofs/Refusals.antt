@@ -1,5 +1,5 @@
 -- The refusals of the event calls, as a trace sees them and by its history.
-use Rattle.std.proofs.Common.{◌≡◌, ℕ, ◌+◌, ◌≤◌, leb, List, reverse, length, take, Some, Option, ap, ◌∙◌, sym, inl, inr, arith}
+use Rattle.std.proofs.Common.{◌≡◌, ℕ, leb, List, length, take, Some, Option, ap, ◌∙◌, sym, inl, inr, arith}
 use Rattle.std.proofs.lemmas.Bool.{cases_Bool}
 use Rattle.std.proofs.lemmas.List.{length-take-le, length-reverse}
 use Rattle.causality.specs.declared.Event.{Event}

@@ -1,18 +1,22 @@
 //! Calls on a correlator, and their answers, as values.
 
+ghost use Rattle.std.specs.Prelude.{◌≡◌};
+ghost use Rattle.promise.specs.Requests.{without_row};
+
 use causality::{CausalOrder, Place};
+use counting::NO_ROW;
 use gathering::Row;
 use history::Refusal;
 
 /// A row that is lent to a call: its first `len` numbers, at most 16.
-#[derive(Clone, Copy)]
+#[derive(Clone, Copy, PartialEq, Eq, Debug)]
 pub struct Lent {
     pub row: Row,
     pub len: u16,
 }
 
 /// A call on a correlator.
-#[derive(Clone, Copy)]
+#[derive(Clone, Copy, PartialEq, Eq, Debug)]
 pub enum Request {
     /// A number of nodes.
     Start(u16),
@@ -32,7 +36,7 @@ pub enum Request {
 }
 
 /// What an accepted call answers.
-#[derive(Clone, Copy)]
+#[derive(Clone, Copy, PartialEq, Eq, Debug)]
 pub enum Value {
     /// A start, close or stamp was done.
     Done,
@@ -43,8 +47,20 @@ pub enum Value {
 }
 
 /// What a call answered, and what it left in the row that it was lent: zeros if it was lent none.
-#[derive(Clone, Copy)]
+#[derive(Clone, Copy, PartialEq, Eq, Debug)]
 pub struct Answer {
     pub result: Result<Value, Refusal>,
     pub row: Row,
+}
+
+/// An answer of a call that is lent no row.
+impl From<Result<Value, Refusal>> for Answer {
+    ghost from_gives = { λ r a. a ≡ without_row r };
+
+    fn from(result: Result<Value, Refusal>) -> Answer {
+        Answer {
+            result,
+            row: NO_ROW,
+        }
+    }
 }

@@ -2,6 +2,7 @@
 
 ghost use Rattle.std.specs.Prelude.{◌≡◌, ◌≤◌, length, Decides, IfOk, MatchResult, OnOk, Some, None};
 ghost use Rattle.causality.specs.Relations.{To};
+ghost use Rattle.causality.specs.Traces.{Orderly};
 ghost use Rattle.correlator.specs.Directions.{Selects, direction_number};
 ghost use Rattle.correlator.specs.Told.{history};
 ghost use Rattle.history.specs.Answers.{Compared, Obeys, OrderOf, reason, stamped};
@@ -108,6 +109,7 @@ impl<F: Clock, R: Clock> Correlator<F, R> {
 
     // The order of two events: a place lies in a past exactly if its index is counted there.
     fn compare(&self, x: Found, y: Found) -> CausalOrder
+        requires orderly { Orderly self.now.events }
         requires x { named (history self.now) x.place ≡ Some x.event }
         requires y { named (history self.now) y.place ≡ Some y.event }
         ensures { Compared self.now.events x.event y.event result }
