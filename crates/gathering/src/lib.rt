@@ -1,9 +1,10 @@
 //! Gathering: one text that joins all elements of a slice, for any associative joining.
 #![tactic(auto)]
 
-ghost use Rattle.std.specs.Prelude.{◌≡◌, ℕ, ◌<◌, ◌≤◌, min, max, ◌++◌, length, MatchOption, slice_index};
+ghost use Rattle.std.specs.List.{AllZip};
+ghost use Rattle.std.specs.Prelude.{◌≡◌, ℕ, List, ◌<◌, ◌≤◌, min, max, ◌++◌, length, MatchOption, slice_index};
 ghost use Rattle.gathering.specs.Gathering.{Chooses, Extreme, earliest, joined_all, zipped};
-ghost use Rattle.std.proofs.Common.{ap, rules, arith};
+ghost use Rattle.std.proofs.Common.{ap, ap₂, rules, arith};
 ghost use Rattle.gathering.specs.Absent.{earliest_associative};
 ghost use Rattle.gathering.specs.Choices.{by_max, by_min};
 ghost use Rattle.gathering.specs.Zips.{zipped_assoc};
@@ -20,15 +21,24 @@ pub trait Joining<T> {
     ghost associative: { (x y z : T) → op (op x y) z ≡ op x (op y z) };
 }
 
+/// What is made of each item, joined; none of no items.
+pub fn gather_by<X: Copy, T: Copy, J: Joining<T>, F: Fn(X) -> T>(items: &[X], make: F) -> Option<T>
+    requires { F.IsAlwaysCallable make }
+    ensures { (made : List T) × AllZip (F.post make) items.now made × (result ≡ joined_all J.Joining.op made) }
+{
+    let mut all = None;
+    for x in items {
+        let made = make(*x);
+        all = Some(all.map_or(made, |before| J::join(before, made)));
+    }
+    all
+}
+
 /// All elements joined; none of an empty slice.
 pub fn gather<T: Copy, J: Joining<T>>(items: &[T]) -> Option<T>
     ensures { result ≡ joined_all J.Joining.op items.now }
 {
-    let mut all = None;
-    for x in items {
-        all = Some(all.map_or(*x, |before| J::join(before, *x)));
-    }
-    all
+    gather_by::<T, T, J, _>(items, |x| x)
 }
 
 /// Two parts gathered one by one and then joined: the same as the whole gathered at once.
@@ -109,6 +119,17 @@ impl<J: Joining<u16>> Joining<Row> for J {
         Row {
             counts: array::from_fn(|i| J::join(a.counts[i], b.counts[i])),
         }
+    }
+}
+
+/// Two joinings join pairs, each its half.
+impl<A, B, J: Joining<A>, K: Joining<B>> Joining<(A, B)> for (J, K) {
+    ghost op = { λ x y. (J.op x.0 y.0, K.op x.1 y.1) };
+
+    ghost associative = { λ x y z. ap₂ (λ a b. (a, b)) (J.associative x.0 y.0 z.0) (K.associative x.1 y.1 z.1) };
+
+    fn join((a, c): (A, B), (b, d): (A, B)) -> (A, B) {
+        (J::join(a, b), K::join(c, d))
     }
 }
 
