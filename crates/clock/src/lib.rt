@@ -11,6 +11,18 @@ ghost use Rattle.clock.specs.Takes.{MeaningsGrow, MeaningsAnswer, MeaningsLawful
 pub const MAX_NODES: u16 = causality::MAX_NODES;
 /// The most entries of a clock: one for each event of a trace.
 pub const MAX_ENTRIES: u16 = causality::MAX_EVENTS;
+/// How many nodes a clock keeps room for.
+pub const NODES: usize = MAX_NODES as usize;
+/// How many entries a clock keeps room for.
+pub const ENTRIES: usize = MAX_ENTRIES as usize;
+
+/// An entry that a clock is asked to take: its node, the second node of a meet, and the entry that it follows by a message.
+#[derive(Clone, Copy, PartialEq, Eq, Debug)]
+pub struct NewEntry {
+    pub node: u16,
+    pub partner: Option<u16>,
+    pub prior: Option<u16>,
+}
 
 /// A logical clock: nodes counted from 1, and entries counted from 0, each at one node or two, with its causal past.
 pub trait Clock: Sized {
@@ -26,12 +38,12 @@ pub trait Clock: Sized {
         ensures after { means self.new ≡ begun (means self.old) n }
         ensures value { result ≡ begins n };
 
-    /// Appends an entry at node a, and at node b if given, and answers its number. Its past is itself, and the pasts of
-    /// the latest entry at a, of the latest at b and of entry m, where these exist or are given. Refuses exactly if 512
-    /// entries are held, a or a given b is no node, a equals b, or a given m is not held.
-    fn take(&mut self, a: u16, b: Option<u16>, m: Option<u16>) -> Option<u16>
-        ensures after { means self.new ≡ taken (means self.old) a b m }
-        ensures value { result ≡ number (means self.old) a b m };
+    /// Appends an entry and answers its number. Its past is itself, and the pasts of the latest entry at its node, of the
+    /// latest at its partner and of its prior, where these exist or are given. Refuses exactly if 512 entries are held, the
+    /// node or a given partner is no node, the two are equal, or a given prior is not held.
+    fn take(&mut self, entry: NewEntry) -> Option<u16>
+        ensures after { means self.new ≡ taken (means self.old) entry.node entry.partner entry.prior }
+        ensures value { result ≡ number (means self.old) entry.node entry.partner entry.prior };
 
     /// How many entries at node i lie in the past of entry e. Absent exactly if e is not held or i is no node.
     fn count(&self, e: u16, i: u16) -> Option<u16>
@@ -54,18 +66,30 @@ pub trait Clock: Sized {
     ghost no_higher: { (x : Self) → NoHigher (means x) };
 }
 
-/// Whether a clock of so many nodes and entries accepts an entry at a and b that follows m.
-pub fn admits(nodes: u16, len: u16, a: u16, b: Option<u16>, m: Option<u16>) -> bool
-    ensures { result ≡ admits nodes len a b m }
+impl NewEntry {
+    /// Whether it stands at node i.
+    pub fn stands(&self, i: u16) -> bool
+        ensures { result ≡ at_either self.now.node self.now.partner i }
+    {
+        stands(self.node, self.partner, i)
+    }
+}
+
+/// Whether a clock of so many nodes and entries accepts an entry.
+pub fn admits(nodes: u16, len: u16, entry: NewEntry) -> bool
+    ensures { result ≡ admits nodes len entry.node entry.partner entry.prior }
 {
-    len < MAX_ENTRIES && is_node(nodes, a) && is_partner(nodes, a, b) && is_held(len, m)
+    len < MAX_ENTRIES
+        && is_node(nodes, entry.node)
+        && is_partner(nodes, entry.node, entry.partner)
+        && entry.prior.is_none_or(|e| e < len)
 }
 
 /// Whether a clock of so many nodes has node i.
 pub fn is_node(nodes: u16, i: u16) -> bool
     ensures { result ≡ is_node nodes i }
 {
-    1 <= i && i <= nodes
+    (1..=nodes).contains(&i)
 }
 
 /// Whether a clock of so many nodes and entries holds entry e and has node i.
@@ -78,29 +102,14 @@ pub fn knows(nodes: u16, len: u16, e: u16, i: u16) -> bool
 fn is_partner(nodes: u16, a: u16, b: Option<u16>) -> bool
     ensures { result ≡ (if_given (is_node nodes) b && not (is b a)) }
 {
-    match b {
-        None => true,
-        Some(b) => is_node(nodes, b) && b != a,
-    }
-}
-
-fn is_held(len: u16, m: Option<u16>) -> bool
-    ensures { result ≡ if_given (λ e. nat_lt e len) m }
-{
-    match m {
-        None => true,
-        Some(m) => m < len,
-    }
+    b.is_none_or(|b| is_node(nodes, b) && b != a)
 }
 
 /// Whether an entry at node a, and at b if given, stands at node i.
 pub fn stands(a: u16, b: Option<u16>, i: u16) -> bool
     ensures { result ≡ at_either a b i }
 {
-    match b {
-        None => a == i,
-        Some(b) => a == i || b == i,
-    }
+    a == i || b == Some(i)
 }
 
 /// An accepted take adds exactly its entry.

@@ -1,41 +1,9 @@
 -- What is gathered place by place, by a choice that goes by an order, is first by that order at each place.
-use Rattle.std.proofs.Common.{◌≡◌, ℕ, zero, suc, ◌<◌, ◌≤◌, min, max, ◌⊎◌, List, [], ◌∷◌, length, get_or, Some, None, fold, sym, refl, ap, ◌∙◌, subst, inl, inr, arith}
-use Rattle.std.proofs.lemmas.Bool.{cases_lt}
-use Rattle.gathering.specs.Gathering.{joined_all, zipped, Extreme}
+use Rattle.std.proofs.Common.{◌≡◌, ℕ, zero, suc, ◌<◌, min, List, [], ◌∷◌, length, get_or, Option, MatchOption, fold, sym, refl, ap, ◌∙◌, subst, inl, inr, arith}
+use Rattle.std.specs.Option.{IfSome}
+use Rattle.gathering.specs.declared.Row.{Row}
+use Rattle.gathering.specs.Gathering.{Chooses, Extreme, joined_all, zipped}
 use Rattle.gathering.specs.Zips.{length-zipped, get_or-zipped}
-
-pub record Chooses (before : ℕ → ℕ → Type 0) (f : ℕ → ℕ → ℕ) : Type 0 where
-  pub itself : (x : ℕ) → before x x
-  pub chain : (x y z : ℕ) → before x y → before y z → before x z
-  pub first : (x y : ℕ) → before (f x y) x
-  pub second : (x y : ℕ) → before (f x y) y
-  pub one_of : (x y : ℕ) → (f x y ≡ x) ⊎ (f x y ≡ y)
-
-min-one : (x y : ℕ) → (x < y) ⊎ (y ≤ x) → (min x y ≡ x) ⊎ (min x y ≡ y)
-min-one x y (inl h) = inl (omega arith)
-min-one x y (inr h) = inr (omega arith)
-
-max-one : (x y : ℕ) → (x < y) ⊎ (y ≤ x) → (max x y ≡ x) ⊎ (max x y ≡ y)
-max-one x y (inl h) = inr (omega arith)
-max-one x y (inr h) = inl (omega arith)
-
-pub by_min : Chooses (λ x y. x ≤ y) min
-by_min = record {
-  itself = λ x. omega arith;
-  chain = λ x y z h k. omega arith;
-  first = λ x y. omega arith;
-  second = λ x y. omega arith;
-  one_of = λ x y. min-one x y (cases_lt x y);
-}
-
-pub by_max : Chooses (λ x y. y ≤ x) max
-by_max = record {
-  itself = λ x. omega arith;
-  chain = λ x y z h k. omega arith;
-  first = λ x y. omega arith;
-  second = λ x y. omega arith;
-  one_of = λ x y. max-one x y (cases_lt x y);
-}
 
 module _ {before : ℕ → ℕ → Type 0} {f : ℕ → ℕ → ℕ} (rule : Chooses before f) {X : Type 0} (op : X → X → X) (counts : X → List ℕ) (places : (x y : X) → counts (op x y) ≡ zipped f (counts x) (counts y)) (k : ℕ) where
   abbrev at : X → ℕ
@@ -79,12 +47,12 @@ module _ {before : ℕ → ℕ → Type 0} {f : ℕ → ℕ → ℕ} (rule : Cho
   pub extreme : (a : X) (xs : List X) → k < length (counts (fold op a xs)) → Extreme before at (a ∷ xs) (at (fold op a xs))
   extreme a xs h = (bounds a xs h, some a xs h)
 
-  pub gathered_extreme : (r : X) (rows : List X) → Some r ≡ joined_all op rows → k < length (counts r) → Extreme before at rows (at r)
-  gathered_extreme r [] e h = let z : ◌≡◌ {A = ℕ} 0 1 = cc in absurd (omega arith)
-  gathered_extreme r (a ∷ xs) e h =
-      let is : r ≡ fold op a xs = cc in
-      subst (λ x. Extreme before at (a ∷ xs) (at x)) (sym is) (extreme a xs (subst (λ x. k < length (counts x)) is h))
-
-pub none_gathered : {X : Type 0} (op : X → X → X) (rows : List X) → None ≡ joined_all op rows → length rows ≡ 0
-none_gathered op [] e = refl
-none_gathered op (a ∷ xs) e = let z : ◌≡◌ {A = ℕ} 0 1 = cc in absurd (omega arith)
+pub gathered_extreme : {before : ℕ → ℕ → Type 0} {f : ℕ → ℕ → ℕ} → Chooses before f →
+    (rows : List Row) (r : Option Row) → r ≡ joined_all (λ x y. record { counts = zipped f x.counts y.counts }) rows →
+    IfSome r (λ x. length x.counts ≡ 16) →
+    MatchOption r (length rows ≡ 0) (λ row. (k : ℕ) → k < 16 → Extreme before (λ x. get_or x.counts k 0) rows (get_or row.counts k 0))
+gathered_extreme rule [] r e h = rw e refl
+gathered_extreme {f = f} rule (a ∷ xs) r e h =
+    let op : Row → Row → Row = λ x y. record { counts = zipped f x.counts y.counts } in
+    let long : length (fold op a xs).counts ≡ 16 = rw e at h in
+    rw e (λ k l. extreme rule op (λ x. x.counts) (λ x y. refl) k a xs (omega arith))

@@ -1,21 +1,14 @@
--- A loop that gathers.
-use Rattle.std.proofs.Common.{◌≡◌, ℕ, ◌+◌, ◌<◌, List, [], ◌∷◌, ◌++◌, length, get_or, take, Some, None, fold, Option, sym, refl, ap, ◌∙◌}
-use Rattle.std.proofs.lemmas.List.{take_more, append-nil}
+-- Elements joined: one more, and two parts.
+use Rattle.std.proofs.Common.{◌≡◌, List, [], ◌∷◌, ◌++◌, Some, Option, MatchOption, fold, refl, sym, ap, ◌∙◌}
+use Rattle.std.proofs.lemmas.List.{append-nil}
 use Rattle.std.proofs.lemmas.List.Sums.{fold_push}
 use Rattle.gathering.specs.Gathering.{joined_all, joined_two}
 
-module _ {X : Type 0} (op : X → X → X) where
-  abbrev pub with_one : Option X → X → Option X
-  with_one None x = Some x
-  with_one (Some b) x = Some (op b x)
-
-  gather_push : (xs : List X) (x : X) → joined_all op (xs ++ x ∷ []) ≡ with_one (joined_all op xs) x
-  gather_push [] x = refl
-  gather_push (y ∷ ys) x = ap (λ z. Some z) (fold_push op y ys x)
-
-  pub gather-more : (xs : List X) (i : ℕ) (x : X) → i < length xs → x ≡ get_or xs i x → joined_all op (take (i + 1) xs) ≡ with_one (joined_all op (take i xs)) x
-  gather-more xs i x h read =
-      ap (joined_all op) (take_more xs i x h ∙ ap (λ y. take i xs ++ y ∷ []) (sym read)) ∙ gather_push (take i xs) x
+-- one more element is joined behind the others
+pub joined_push : {X : Type 0} (op : X → X → X) (xs : List X) (all : Option X) (x r : X) → all ≡ joined_all op xs →
+    MatchOption all (r ≡ x) (λ before. r ≡ op before x) → Some r ≡ joined_all op (xs ++ x ∷ [])
+joined_push op [] all x r e h = ap Some (rw e at h)
+joined_push op (y ∷ ys) all x r e h = let step : r ≡ op (fold op y ys) x = rw e at h in ap Some (step ∙ sym (fold_push op y ys x))
 
 -- ---- an associative joining may be grouped in any way
 

@@ -1,3 +1,4 @@
 pub mod Gathering
 pub mod Absent
 pub mod Zips
+pub mod Choices

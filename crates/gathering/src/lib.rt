@@ -1,11 +1,15 @@
 //! Gathering: one text that joins all elements of a slice, for any associative joining.
 #![tactic(auto)]
 
-ghost use Rattle.std.specs.Prelude.{◌≡◌, ℕ, ◌<◌, min, max, ◌++◌, length, MatchOption, slice_index};
-ghost use Rattle.gathering.specs.Gathering.{Highest, Lowest, earliest, joined_all, zipped};
-ghost use Rattle.std.proofs.Common.{ap, rules, arith};
+ghost use Rattle.std.specs.List.{AllZip};
+ghost use Rattle.std.specs.Prelude.{◌≡◌, ℕ, List, ◌<◌, ◌≤◌, min, max, ◌++◌, length, MatchOption, slice_index};
+ghost use Rattle.gathering.specs.Gathering.{Chooses, Extreme, earliest, joined_all, zipped};
+ghost use Rattle.std.proofs.Common.{ap, ap₂, rules, arith};
 ghost use Rattle.gathering.specs.Absent.{earliest_associative};
+ghost use Rattle.gathering.specs.Choices.{by_max, by_min};
 ghost use Rattle.gathering.specs.Zips.{zipped_assoc};
+
+use std::array;
 
 /// A way to join two values of T into one, in any grouping. A type without values of its own names it.
 pub trait Joining<T> {
@@ -17,18 +21,24 @@ pub trait Joining<T> {
     ghost associative: { (x y z : T) → op (op x y) z ≡ op x (op y z) };
 }
 
+/// What is made of each item, joined; none of no items.
+pub fn gather_by<X: Copy, T: Copy, J: Joining<T>, F: Fn(X) -> T>(items: &[X], make: F) -> Option<T>
+    requires { F.IsAlwaysCallable make }
+    ensures { (made : List T) × AllZip (F.post make) items.now made × (result ≡ joined_all J.Joining.op made) }
+{
+    let mut all = None;
+    for x in items {
+        let made = make(*x);
+        all = Some(all.map_or(made, |before| J::join(before, made)));
+    }
+    all
+}
+
 /// All elements joined; none of an empty slice.
 pub fn gather<T: Copy, J: Joining<T>>(items: &[T]) -> Option<T>
     ensures { result ≡ joined_all J.Joining.op items.now }
 {
-    let mut all = None;
-    for x in items {
-        all = match all {
-            None => Some(*x),
-            Some(before) => Some(J::join(before, *x)),
-        };
-    }
-    all
+    gather_by::<T, T, J, _>(items, |x| x)
 }
 
 /// Two parts gathered one by one and then joined: the same as the whole gathered at once.
@@ -46,7 +56,7 @@ pub fn gather_parts<T: Copy, J: Joining<T>>(front: &[T], back: &[T]) -> Option<T
 pub const ROW: usize = 16;
 
 /// A number for each node.
-#[derive(Clone, Copy, Debug)]
+#[derive(Clone, Copy, PartialEq, Eq, Debug)]
 pub struct Row {
     pub counts: [u16; ROW],
 }
@@ -94,68 +104,57 @@ impl Joining<u16> for Earliest {
         } else if b == 0 {
             a
         } else {
-            <Least as Joining<u16>>::join(a, b)
+            Least::join(a, b)
         }
     }
 }
 
-/// Two rows joined number by number.
-pub fn each_place<C: Joining<u16>>(a: Row, b: Row) -> Row
-    ensures { result.counts ≡ zipped C.Joining.op a.counts b.counts }
-{
-    let mut counts = a.counts;
-    for i in 0..ROW {
-        counts[i] = C::join(counts[i], b.counts[i]);
-    }
-    Row { counts }
-}
+/// A joining of numbers joins rows number by number.
+impl<J: Joining<u16>> Joining<Row> for J {
+    ghost op = { λ x y. record { counts = zipped J.op x.counts y.counts } };
 
-impl Joining<Row> for Least {
-    ghost op = { λ x y. record { counts = zipped min x.counts y.counts } };
-
-    ghost associative = { λ x y z. ap (λ l. record { counts = l }) (zipped_assoc min (λ a b c. omega arith) x.counts y.counts z.counts) };
+    ghost associative = { λ x y z. ap (λ l. record { counts = l }) (zipped_assoc J.op J.associative x.counts y.counts z.counts) };
 
     fn join(a: Row, b: Row) -> Row {
-        each_place::<Least>(a, b)
+        Row {
+            counts: array::from_fn(|i| J::join(a.counts[i], b.counts[i])),
+        }
     }
 }
 
-impl Joining<Row> for Greatest {
-    ghost op = { λ x y. record { counts = zipped max x.counts y.counts } };
+/// Two joinings join pairs, each its half.
+impl<A, B, J: Joining<A>, K: Joining<B>> Joining<(A, B)> for (J, K) {
+    ghost op = { λ x y. (J.op x.0 y.0, K.op x.1 y.1) };
 
-    ghost associative = { λ x y z. ap (λ l. record { counts = l }) (zipped_assoc max (λ a b c. omega arith) x.counts y.counts z.counts) };
+    ghost associative = { λ x y z. ap₂ (λ a b. (a, b)) (J.associative x.0 y.0 z.0) (K.associative x.1 y.1 z.1) };
 
-    fn join(a: Row, b: Row) -> Row {
-        each_place::<Greatest>(a, b)
+    fn join((a, c): (A, B), (b, d): (A, B)) -> (A, B) {
+        (J::join(a, b), K::join(c, d))
     }
 }
 
-impl Joining<Row> for Earliest {
-    ghost op = { λ x y. record { counts = zipped earliest x.counts y.counts } };
+/// A joining that keeps one of two numbers: the one that is first by an order.
+pub trait Choosing: Joining<u16> {
+    ghost before: { ℕ → ℕ → Type 0 };
 
-    ghost associative = { λ x y z. ap (λ l. record { counts = l }) (zipped_assoc earliest earliest_associative x.counts y.counts z.counts) };
-
-    fn join(a: Row, b: Row) -> Row {
-        each_place::<Earliest>(a, b)
-    }
+    ghost chooses: { Chooses before Self.Joining.op };
 }
 
-/// The least of some rows, number by number; none of no rows.
-pub fn least_row(rows: &[Row]) -> Option<Row>
-    ensures { MatchOption result (length rows.now ≡ 0) (λ row. (k : ℕ) → k < 16 → Lowest (λ (x : Row). slice_index x.counts k) rows.now (slice_index row.counts k)) }
+impl Choosing for Least {
+    ghost before = { λ x y. x ≤ y };
+
+    ghost chooses = { by_min };
+}
+
+impl Choosing for Greatest {
+    ghost before = { λ x y. y ≤ x };
+
+    ghost chooses = { by_max };
+}
+
+/// The row that is first at each number, as a joining chooses: the least of some rows, or the greatest; none of no rows.
+pub fn extreme_row<J: Choosing>(rows: &[Row]) -> Option<Row>
+    ensures { MatchOption result (length rows.now ≡ 0) (λ row. (k : ℕ) → k < 16 → Extreme J.Choosing.before (λ (x : Row). slice_index x.counts k) rows.now (slice_index row.counts k)) }
 {
-    match gather::<Row, Least>(rows) {
-        None => None,
-        Some(all) => Some(all),
-    }
-}
-
-/// The greatest of some rows, number by number; none of no rows.
-pub fn greatest_row(rows: &[Row]) -> Option<Row>
-    ensures { MatchOption result (length rows.now ≡ 0) (λ row. (k : ℕ) → k < 16 → Highest (λ (x : Row). slice_index x.counts k) rows.now (slice_index row.counts k)) }
-{
-    match gather::<Row, Greatest>(rows) {
-        None => None,
-        Some(all) => Some(all),
-    }
+    gather::<Row, J>(rows)
 }

@@ -18,7 +18,7 @@ at_none ts i k l = let it = entry-none (timeline ts i) (k - 1) (omega arith) in 
 
 module _ (links : List Link) (i : ℕ) where
   pub timeline-more : (x : ℕ) → timeline (takes_of links (x + 1)) i
-      ≡ cond (at_either (get_or links x no_link).node (get_or links x no_link).partner i) (x ∷ timeline (takes_of links x) i) (timeline (takes_of links x) i)
+      ≡ cond (at_either (get_or links x no_link).entry.node (get_or links x no_link).entry.partner i) (x ∷ timeline (takes_of links x) i) (timeline (takes_of links x) i)
   timeline-more x = rw (add-one, length_takes links x)
 
   entry-grown : (n y k₀ k : ℕ) → k₀ ≤ k → entry (timeline (takes_of links k₀) i) n ≡ Some y → entry (timeline (takes_of links k) i) n ≡ Some y
@@ -28,10 +28,10 @@ module _ (links : List Link) (i : ℕ) where
         | inl q ↦ rw q at h
         | inr q ↦
             let rec = entry-grown n y k₀ k (omega arith) h in
-            elim (cases_Bool (at_either (get_or links k no_link).node (get_or links k no_link).partner i)) [ inl s ↦ rw s (entry_up _ (timeline (takes_of links k) i) n y rec) | inr s ↦ rw s rec ]
+            elim (cases_Bool (at_either (get_or links k no_link).entry.node (get_or links k no_link).entry.partner i)) [ inl s ↦ rw s (entry_up _ (timeline (takes_of links k) i) n y rec) | inr s ↦ rw s rec ]
       ]
 
-  pub at_here : (len x k : ℕ) → x < len → at_either (get_or links x no_link).node (get_or links x no_link).partner i ≡ true → k ≡ length (timeline (takes_of links x) i) + 1 →
+  pub at_here : (len x k : ℕ) → x < len → at_either (get_or links x no_link).entry.node (get_or links x no_link).entry.partner i ≡ true → k ≡ length (timeline (takes_of links x) i) + 1 →
       at (takes_of links len) i k ≡ Some x
   at_here len x k l s e =
       let c = timeline (takes_of links x) i in

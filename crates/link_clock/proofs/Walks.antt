@@ -9,7 +9,7 @@ use Rattle.causality.specs.Entries.{at_either, timeline, in_some, past}
 use Rattle.causality.proofs.Pasts.{pasts-lawful}
 use Rattle.clock.specs.Meaning.{max_entries}
 use Rattle.link_clock.specs.declared.Link.{Link}
-use Rattle.link_clock.specs.Links.{no_link, takes_of, before, marked, visited, hits, reached, Walked}
+use Rattle.link_clock.specs.Links.{no_link, takes_of, before, marked, visited, met, reached, Walked}
 use Rattle.link_clock.proofs.Links.{length_takes, earlier-all, Linked}
 
 -- ---- tests
@@ -65,7 +65,7 @@ tally_older links p e i high (suc k) l =
       | inl q ↦ rw q
       | inr q ↦
           let rec = tally_older links p e i high k (omega arith) in
-          elim (cases_Bool (at_either (get_or links k no_link).node (get_or links k no_link).partner i)) [
+          elim (cases_Bool (at_either (get_or links k no_link).entry.node (get_or links k no_link).entry.partner i)) [
             | inl s ↦ rw (s, length_takes links k, high k (omega arith)) rec
             | inr s ↦ rw s rec
           ]
@@ -97,7 +97,7 @@ module _ (links : List Link) (len e i : ℕ) (linked : Linked links len) (e-low 
     left = λ y l.
         let none = reached-none P y (replicate max_entries false) (suc e) (λ z l. rw (get_or-replicate max_entries z false false (omega arith))) in
         rw (add-one, reached-set P y (replicate max_entries false) e (suc e) (omega arith) (omega (arith, length-replicate max_entries false)), none) (or-false (P e y));
-    met = rw add-one (omega (arith, tally_older links (P e) e i (λ z. high e z) len e-low));
+    counted = rw add-one (omega (arith, tally_older links (P e) e i (λ z. high e z) len e-low));
   }
 
   module _ (marks : List Bool) (z count : ℕ) (w : Walked links len e i marks (suc z) count) where
@@ -111,9 +111,9 @@ module _ (links : List Link) (len e i : ℕ) (linked : Linked links len) (e-low 
           | inr s ↦ let h = w.left z (omega arith) in s ∙ rw (s, rest) at h
         ]
 
-    met-more : hits links marks z i + tally (P e) (timeline (takes_of links z) i) ≡ tally (P e) (timeline (takes_of links (suc z)) i)
-    met-more =
-        elim (cases_Bool (at_either (get_or links z no_link).node (get_or links z no_link).partner i)) [
+    counted-more : cond (met links marks z i) 1 0 + tally (P e) (timeline (takes_of links z) i) ≡ tally (P e) (timeline (takes_of links (suc z)) i)
+    counted-more =
+        elim (cases_Bool (at_either (get_or links z no_link).entry.node (get_or links z no_link).entry.partner i)) [
           | inl s ↦ rw (s, length_takes links z, ← told) (one_hit (get_or marks z false) _)
           | inr s ↦ rw s (no_hit (get_or marks z false) _)
         ]
@@ -130,14 +130,14 @@ module _ (links : List Link) (len e i : ℕ) (linked : Linked links len) (e-low 
           | inr s ↦ rw s (rw s at here)
         ]
 
-    pub walked_step : Walked links len e i (visited links marks z) z (count + hits links marks z i)
+    pub walked_step : Walked links len e i (visited links marks z) z (count + cond (met links marks z i) 1 0)
     walked_step = record {
       size = elim (cases_Bool (get_or marks z false)) [ inl s ↦ rw s (length_marked marks (before (get_or links z no_link)) ∙ w.size) | inr s ↦ rw s w.size ];
       low = omega (arith, w.low);
-      small = elim (cases_Bool (get_or marks z false && at_either (get_or links z no_link).node (get_or links z no_link).partner i)) [
+      small = elim (cases_Bool (get_or marks z false && at_either (get_or links z no_link).entry.node (get_or links z no_link).entry.partner i)) [
         | inl s ↦ rw s (omega (arith, w.small))
         | inr s ↦ rw s (omega (arith, w.small))
       ];
       left = left-more;
-      met = omega (arith, w.met, met-more);
+      counted = omega (arith, w.counted, counted-more);
     }

@@ -9,7 +9,7 @@
 --   before link             the immediate predecessors
 --   Keeps, Kept             the links and the latest entries are those of these entries
 --   marked marks xs         marks, and those of xs too
---   visited, hits           what a visit of one entry marks, and what it counts
+--   visited, met            what a visit of one entry marks, and whether it meets an entry at the node
 --   reached past marks k y  y lies in the past of a marked entry below k
 --   Walked                  what holds on the way of a walk
 use Rattle.std.specs.Prelude.{◌≡◌, ℕ, zero, suc, ◌+◌, ◌-◌, ◌<◌, ◌≤◌, Bool, true, false, cond, ◌&&◌, ◌||◌, List, [], ◌∷◌, ◌++◌, length, get_or, Some, None, Option, nat_lt, slice_index_or, slice_set}
@@ -23,10 +23,10 @@ use Rattle.clock.specs.Arrays.{listed}
 use Rattle.link_clock.specs.declared.Link.{Link}
 
 abbrev pub no_link : Link
-no_link = record { node = 0; partner = None; own = None; other = None; prior = None }
+no_link = record { entry = record { node = 0; partner = None; prior = None }; own = None; other = None }
 
 abbrev pub entry_of : Link → Entry
-entry_of l = asked l.node l.partner l.prior
+entry_of l = asked l.entry.node l.entry.partner l.entry.prior
 
 abbrev pub takes_of : List Link → ℕ → List Entry
 takes_of links len = listed (λ e. entry_of (slice_index_or links e no_link)) len
@@ -35,11 +35,11 @@ abbrev pub links_mean : ℕ → ℕ → List Link → Meaning
 links_mean n len links = meaning n (takes_of links len)
 
 abbrev pub before : Link → List ℕ
-before l = option_to_list l.own ++ (option_to_list l.other ++ option_to_list l.prior)
+before l = option_to_list l.own ++ (option_to_list l.other ++ option_to_list l.entry.prior)
 
 -- all predecessors are below k
 abbrev pub earlier : ℕ → Link → Bool
-earlier k l = if_given (λ x. nat_lt x k) l.own && (if_given (λ x. nat_lt x k) l.other && if_given (λ x. nat_lt x k) l.prior)
+earlier k l = if_given (λ x. nat_lt x k) l.own && (if_given (λ x. nat_lt x k) l.other && if_given (λ x. nat_lt x k) l.entry.prior)
 
 -- ---- the predecessors of the entries taken
 
@@ -70,12 +70,13 @@ abbrev pub marked : List Bool → List ℕ → List Bool
 marked marks [] = marks
 marked marks (x ∷ xs) = marked (slice_set marks x true) xs
 
--- the marks after a visit of entry x, and what it adds to the count at node i
+-- the marks after a visit of entry x
 abbrev pub visited : List Link → List Bool → ℕ → List Bool
 visited links marks x = cond (slice_index_or marks x false) (marked marks (before (slice_index_or links x no_link))) marks
 
-abbrev pub hits : List Link → List Bool → ℕ → ℕ → ℕ
-hits links marks x i = cond (slice_index_or marks x false && at_either (get_or links x no_link).node (get_or links x no_link).partner i) 1 0
+-- entry x is marked and stands at node i
+abbrev pub met : List Link → List Bool → ℕ → ℕ → Bool
+met links marks x i = slice_index_or marks x false && at_either (get_or links x no_link).entry.node (get_or links x no_link).entry.partner i
 
 abbrev pub reached : (ℕ → ℕ → Bool) → List Bool → ℕ → ℕ → Bool
 reached past_of marks zero y = false
@@ -87,4 +88,4 @@ pub record Walked (links : List Link) (len e i : ℕ) (marks : List Bool) (x cou
   pub low : x ≤ e + 1
   pub small : count + x ≤ max_entries
   pub left : (y : ℕ) → y < x → reached (past (takes_of links len)) marks x y ≡ past (takes_of links len) e y
-  pub met : count + tally (past (takes_of links len) e) (timeline (takes_of links x) i) ≡ stamp (takes_of links len) e i
+  pub counted : count + tally (past (takes_of links len) e) (timeline (takes_of links x) i) ≡ stamp (takes_of links len) e i

@@ -6,24 +6,17 @@ ghost use Rattle.std.specs.Option.{option_to_list};
 ghost use Rattle.causality.specs.Entries.{at as timeline_at, stamp};
 ghost use Rattle.causality.specs.Limits.{max_nodes, is_node};
 ghost use Rattle.clock.specs.Meaning.{max_entries, blank, if_given};
-ghost use Rattle.link_clock.specs.Links.{no_link, before, earlier, takes_of, links_mean, Kept, latest_of, Noted, marked, visited, hits};
+ghost use Rattle.link_clock.specs.Links.{no_link, before, earlier, takes_of, links_mean, Kept, latest_of, Noted, marked, met, visited};
 ghost use Rattle.clock.proofs.Takes.{meanings_lawful};
 
-use clock::{Clock, MAX_ENTRIES, MAX_NODES, admits, is_node, knows, stands};
+use clock::{Clock, ENTRIES, MAX_NODES, NODES, NewEntry, admits, is_node, knows};
 
-const NODES: usize = MAX_NODES as usize;
-
-const ENTRIES: usize = MAX_ENTRIES as usize;
-
-/// An entry: its node, the second node of a meet, and its immediate predecessors: the latest at each of these, and the
-/// entry that it follows by a message.
+/// An entry as it was taken, and its immediate predecessors: beside its prior, the latest at its node and at its partner.
 #[derive(Clone, Copy)]
 struct Link {
-    node: u16,
-    partner: Option<u16>,
+    entry: NewEntry,
     own: Option<u16>,
     other: Option<u16>,
-    prior: Option<u16>,
 }
 
 /// A clock that keeps the immediate predecessors of each entry, and the latest entry of each node.
@@ -66,7 +59,7 @@ fn mark_before(marks: &mut [bool; ENTRIES], link: Link)
 {
     mark(marks, link.own);
     mark(marks, link.other);
-    mark(marks, link.prior);
+    mark(marks, link.entry.prior);
 }
 
 impl LinkClock {
@@ -85,28 +78,21 @@ impl LinkClock {
         requires { if_given (is_node max_nodes) i ≡ true }
         ensures { result ≡ latest_of self.now.latest i }
     {
-        match i {
-            None => None,
-            Some(i) => self.latest[i as usize - 1],
-        }
+        self.latest[i? as usize - 1]
     }
 
-    /// Visits entry x: if it is marked, marks what comes before it, and counts it if it stands at node i.
-    fn visit(&self, marks: &mut [bool; ENTRIES], x: usize, i: u16) -> u16
+    /// Visits entry x: if it is marked, marks what comes before it, and answers whether it then stands at node i.
+    fn visit(&self, marks: &mut [bool; ENTRIES], x: usize, i: u16) -> bool
         requires { (x < max_entries) × (earlier max_entries (slice_index_or self.now.links x no_link) ≡ true) }
         ensures after { marks.new ≡ visited self.now.links marks.old x }
-        ensures value { result ≡ hits self.now.links marks.old x i }
+        ensures value { result ≡ met self.now.links marks.old x i }
     {
         if !marks[x] {
-            return 0;
+            return false;
         }
         let link = self.links[x];
         mark_before(marks, link);
-        if stands(link.node, link.partner, i) {
-            1
-        } else {
-            0
-        }
+        link.entry.stands(i)
     }
 
     /// How many entries at node i lie in the past of e: one pass from e down to the oldest.
@@ -117,10 +103,8 @@ impl LinkClock {
         let mut marks = [false; ENTRIES];
         marks[e as usize] = true;
         let mut count = 0;
-        let mut x = e as usize + 1;
-        while x > 0 {
-            x -= 1;
-            count += self.visit(&mut marks, x, i);
+        for x in (0..=e as usize).rev() {
+            count += u16::from(self.visit(&mut marks, x, i));
         }
         count
     }
@@ -131,12 +115,11 @@ impl LinkClock {
         ensures { result ≡ timeline_at (takes_of self.now.links self.now.len) i k }
     {
         let mut height = 0;
-        for x in 0..self.len {
-            let link = self.links[x as usize];
-            if stands(link.node, link.partner, i) {
+        for (x, link) in self.links[..self.len as usize].iter().enumerate() {
+            if link.entry.stands(i) {
                 height += 1;
                 if height == k {
-                    return Some(x);
+                    return Some(x as u16);
                 }
             }
         }
@@ -160,11 +143,13 @@ impl Clock for LinkClock {
             nodes: 1,
             len: 0,
             links: [Link {
-                node: 0,
-                partner: None,
+                entry: NewEntry {
+                    node: 0,
+                    partner: None,
+                    prior: None,
+                },
                 own: None,
                 other: None,
-                prior: None,
             }; ENTRIES],
             latest: [None; NODES],
         }
@@ -178,21 +163,15 @@ impl Clock for LinkClock {
         true
     }
 
-    fn take(&mut self, a: u16, b: Option<u16>, m: Option<u16>) -> Option<u16> {
-        if !admits(self.nodes, self.len, a, b, m) {
+    fn take(&mut self, entry: NewEntry) -> Option<u16> {
+        if !admits(self.nodes, self.len, entry) {
             return None;
         }
         let e = self.len;
-        let own = self.latest_at(Some(a));
-        let other = self.latest_at(b);
-        note(&mut self.latest, a, b, e);
-        self.links[e as usize] = Link {
-            node: a,
-            partner: b,
-            own,
-            other,
-            prior: m,
-        };
+        let own = self.latest_at(Some(entry.node));
+        let other = self.latest_at(entry.partner);
+        note(&mut self.latest, entry.node, entry.partner, e);
+        self.links[e as usize] = Link { entry, own, other };
         self.len = e + 1;
         Some(e)
     }
@@ -206,10 +185,7 @@ impl Clock for LinkClock {
     }
 
     fn at(&self, i: u16, k: u16) -> Option<u16> {
-        if !is_node(self.nodes, i) {
-            return None;
-        }
-        if k < 1 {
+        if !is_node(self.nodes, i) || k < 1 {
             return None;
         }
         self.find(i, k)

@@ -11,8 +11,9 @@ ghost use Rattle.row_clock.specs.Laws.{rows_lawful};
 
 mod parts;
 
-use clock::{Clock, MAX_NODES, admits, is_node, knows, stands};
-use parts::{Column, ENTRIES, NODES, Row};
+use clock::{Clock, ENTRIES, MAX_NODES, NODES, NewEntry, admits, is_node, knows};
+use parts::{Column, Predecessors, Row};
+use std::array;
 
 /// A clock that keeps the row of each entry and the column of each node.
 #[derive(Drop)]
@@ -69,12 +70,6 @@ fn file(columns: &mut [Column; NODES], a: u16, b: Option<u16>, e: u16)
     }
 }
 
-fn greater(x: u16, y: u16) -> u16
-    ensures { result ≡ max x y }
-{
-    if x < y { y } else { x }
-}
-
 impl RowClock {
     /// Sets n nodes and no entries.
     fn clear(&mut self, n: u16)
@@ -94,10 +89,7 @@ impl RowClock {
         requires { if_given (is_node max_nodes) i ≡ true }
         ensures { result ≡ latest_of self.now.columns i }
     {
-        match i {
-            None => None,
-            Some(i) => self.columns[i as usize - 1].last(),
-        }
+        self.columns[i? as usize - 1].last()
     }
 
     /// The count of entry e at node i, 0 if no entry is given.
@@ -106,48 +98,30 @@ impl RowClock {
         ensures { result ≡ cell_of self.now.rows e i }
     {
         match e {
-            None => 0,
             Some(e) => self.rows[e as usize].counts[i as usize - 1],
+            None => 0,
         }
     }
 
-    /// The count at node i of a new entry at a and b, of which x, y and z are the immediate predecessors.
-    fn next_count(
-        &self,
-        a: u16,
-        b: Option<u16>,
-        x: Option<u16>,
-        y: Option<u16>,
-        z: Option<u16>,
-        i: u16,
-    ) -> u16
-        requires { (if_given (λ e. nat_lt e max_entries) x ≡ true) × ((if_given (λ e. nat_lt e max_entries) y ≡ true) × ((if_given (λ e. nat_lt e max_entries) z ≡ true) × (is_node max_nodes i ≡ true))) }
-        ensures { result ≡ next_count self.now.rows self.now.columns a b x y z i }
+    /// The count at node i of a new entry after its immediate predecessors.
+    fn next_count(&self, entry: NewEntry, before: Predecessors, i: u16) -> u16
+        requires { is_node max_nodes i ≡ true }
+        ensures { result ≡ next_count self.now.rows self.now.columns entry.node entry.partner before.own before.other before.prior i }
     {
-        if stands(a, b, i) {
+        if entry.stands(i) {
             self.columns[i as usize - 1].len + 1
         } else {
-            greater(self.cell(x, i), greater(self.cell(y, i), self.cell(z, i)))
+            self.cell(before.own, i)
+                .max(self.cell(before.other, i))
+                .max(self.cell(before.prior, i))
         }
     }
 
     /// Its counts at all nodes.
-    fn next_counts(
-        &self,
-        a: u16,
-        b: Option<u16>,
-        x: Option<u16>,
-        y: Option<u16>,
-        z: Option<u16>,
-    ) -> [u16; NODES]
-        requires { (if_given (λ e. nat_lt e max_entries) x ≡ true) × ((if_given (λ e. nat_lt e max_entries) y ≡ true) × (if_given (λ e. nat_lt e max_entries) z ≡ true)) }
-        ensures { (i : ℕ) → i < max_nodes → slice_index result i ≡ next_count self.now.rows self.now.columns a b x y z (i + 1) }
+    fn next_counts(&self, entry: NewEntry, before: Predecessors) -> [u16; NODES]
+        ensures { (i : ℕ) → i < max_nodes → slice_index result i ≡ next_count self.now.rows self.now.columns entry.node entry.partner before.own before.other before.prior (i + 1) }
     {
-        let mut counts = [0; NODES];
-        for i in 0..NODES {
-            counts[i] = self.next_count(a, b, x, y, z, i as u16 + 1);
-        }
-        counts
+        array::from_fn(|i| self.next_count(entry, before, i as u16 + 1))
     }
 }
 
@@ -186,16 +160,21 @@ impl Clock for RowClock {
         true
     }
 
-    fn take(&mut self, a: u16, b: Option<u16>, m: Option<u16>) -> Option<u16> {
-        if !admits(self.nodes, self.len, a, b, m) {
+    fn take(&mut self, entry: NewEntry) -> Option<u16> {
+        if !admits(self.nodes, self.len, entry) {
             return None;
         }
         let e = self.len;
-        let counts = self.next_counts(a, b, self.latest(Some(a)), self.latest(b), m);
-        file(&mut self.columns, a, b, e);
+        let before = Predecessors {
+            own: self.latest(Some(entry.node)),
+            other: self.latest(entry.partner),
+            prior: entry.prior,
+        };
+        let counts = self.next_counts(entry, before);
+        file(&mut self.columns, entry.node, entry.partner, e);
         self.rows[e as usize] = Row {
-            node: a,
-            partner: b,
+            node: entry.node,
+            partner: entry.partner,
             counts,
         };
         self.len = e + 1;

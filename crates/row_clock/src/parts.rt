@@ -1,15 +1,10 @@
 //! What a row clock keeps of each entry, and of each node.
 
-ghost use Rattle.std.specs.Prelude.{◌≡◌, ◌≤◌, true, length};
+ghost use Rattle.std.specs.Prelude.{◌≡◌, ◌≤◌, true, length, nat_lt};
 ghost use Rattle.causality.specs.Limits.{max_nodes, is_node};
-ghost use Rattle.clock.specs.Meaning.{max_entries};
+ghost use Rattle.clock.specs.Meaning.{max_entries, if_given};
 
-use clock::{MAX_ENTRIES, MAX_NODES};
-
-/// How many counts a row has, and how many rows and columns there are.
-pub const NODES: usize = MAX_NODES as usize;
-
-pub const ENTRIES: usize = MAX_ENTRIES as usize;
+use clock::{ENTRIES, NODES};
 
 /// An entry: its node, the second node of a meet, and how many entries of each node lie in its past.
 #[derive(Clone, Copy)]
@@ -28,4 +23,14 @@ pub struct Column {
     pub entries: [u16; ENTRIES],
     ghost long: { length entries ≡ max_entries },
     ghost within: { len ≤ max_entries },
+}
+
+/// The immediate predecessors of an entry: the latest at its node, the latest at its partner, and the one that it follows by a
+/// message.
+#[derive(Clone, Copy)]
+pub struct Predecessors {
+    pub own: Option<u16>,
+    pub other: Option<u16>,
+    pub prior: Option<u16>,
+    ghost held: { (if_given (λ e. nat_lt e max_entries) own ≡ true) × (if_given (λ e. nat_lt e max_entries) other ≡ true) × (if_given (λ e. nat_lt e max_entries) prior ≡ true) },
 }

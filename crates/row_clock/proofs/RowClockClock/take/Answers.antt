@@ -15,7 +15,7 @@ use Rattle.row_clock.proofs.RowClockClock.take.Goals as goal
 pub returns-then-not-admits : goal.returns-then-not-admits
 returns-then-not-admits c =
     let s = c.args.self.now in
-    let (same, none) = take_refused (rows_mean s.nodes s.len s.rows) s.len (length-listed (held_row s.rows) s.len) c.args.a c.args.b c.args.m c.if-not-admits.ensures in
+    let (same, none) = take_refused (rows_mean s.nodes s.len s.rows) s.len (length-listed (held_row s.rows) s.len) c.args.entry.node c.args.entry.partner c.args.entry.prior c.if-not-admits.ensures in
     record { after = same; value = none }
 
 module _ (s : RowClock) (a : ℕ) (b m : Option ℕ) (h : true ≡ admits s.nodes s.len a b m) where
@@ -44,30 +44,28 @@ module _ (s : RowClock) (a : ℕ) (b m : Option ℕ) (h : true ≡ admits s.node
         value,
       )
 
-pub next_counts-counts-requires : goal.next_counts-counts-requires
-next_counts-counts-requires c =
+pub invariant_of-before : goal.invariant_of-before
+invariant_of-before c =
     let s = c.args.self.now in
-    let a = c.args.a in
-    let b = c.args.b in
-    let m = c.args.m in
+    let a = c.args.entry.node in
+    let b = c.args.entry.partner in
+    let m = c.args.entry.prior in
     let h = c.if-not-admits.ensures in
-    let k = ok s a b m h in (
-      last s a b m h (Some a) c.latest.result k.node c.latest.ensures,
-      (last s a b m h b c.latest-2.result k.partner c.latest-2.ensures, fits s a b m h m k.held),
-    )
+    let k = ok s a b m h in
+    record { held = (last s a b m h (Some a) c.latest.result k.node c.latest.ensures, last s a b m h b c.latest-2.result k.partner c.latest-2.ensures, fits s a b m h m k.held) }
 
 pub file-requires : goal.file-requires
 file-requires c =
     let s = c.args.self.now in
-    let k = ok s c.args.a c.args.b c.args.m c.if-not-admits.ensures in
+    let k = ok s c.args.entry.node c.args.entry.partner c.args.entry.prior c.if-not-admits.ensures in
     (k.node, (k.partner, (k.apart, λ i l. omega (arith, column-room s.nodes s.len s.rows s.columns s.within.1 s.kept i l, k.room))))
 
 pub invariant_of-self-2 : goal.invariant_of-self-2
 invariant_of-self-2 c =
     let s = c.args.self.now in
     let h = c.if-not-admits.ensures in
-    let k = ok s c.args.a c.args.b c.args.m h in
-    let (kept, _, _) = grown s c.args.a c.args.b c.args.m h c.latest.result c.latest-2.result _ c.file.new.columns c.latest.ensures c.latest-2.ensures
+    let k = ok s c.args.entry.node c.args.entry.partner c.args.entry.prior h in
+    let (kept, _, _) = grown s c.args.entry.node c.args.entry.partner c.args.entry.prior h c.latest.result c.latest-2.result _ c.file.new.columns c.latest.ensures c.latest-2.ensures
     refl refl c.next_counts-counts.ensures c.file.ensures.filed in
     record {
       long = (length-set s.rows s.len _ ∙ s.long.0, c.file.ensures.long ∙ s.long.1);
@@ -78,6 +76,6 @@ invariant_of-self-2 c =
 pub returns : goal.returns
 returns c =
     let s = c.args.self.now in
-    let (_, after, value) = grown s c.args.a c.args.b c.args.m c.if-not-admits.ensures c.latest.result c.latest-2.result _ c.file.new.columns
+    let (_, after, value) = grown s c.args.entry.node c.args.entry.partner c.args.entry.prior c.if-not-admits.ensures c.latest.result c.latest-2.result _ c.file.new.columns
     c.latest.ensures c.latest-2.ensures refl refl c.next_counts-counts.ensures c.file.ensures.filed in
     record { after = after; value = value }
