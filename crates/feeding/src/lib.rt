@@ -6,7 +6,7 @@ ghost use Rattle.feeding.specs.Posted.{fed_through, follower, from_last};
 ghost use Rattle.records.specs.Messages.{sent_of};
 
 use causality::Event;
-use clock::Clock;
+use clock::{Clock, NewEntry};
 use records::Messages;
 
 /// Gives a clock the first `len` events, the last of them first, each send with the entry of its receive.
@@ -18,7 +18,11 @@ pub fn feed_back<C: Clock>(clock: &mut C, events: &[Event], len: u16, sent: &Mes
     while i > 0 {
         i -= 1;
         let event = events[i as usize];
-        let _ = clock.take(event.node(), event.partner(), follower_of(event, sent, len));
+        let _ = clock.take(NewEntry {
+            node: event.node(),
+            partner: event.partner(),
+            prior: follower_of(event, sent, len),
+        });
     }
 }
 

@@ -57,9 +57,9 @@ pub struct Answer {
 impl From<Result<Value, Refusal>> for Answer {
     ghost from_gives = { λ r a. a ≡ without_row r };
 
-    fn from(result: Result<Value, Refusal>) -> Answer {
+    fn from(res: Result<Value, Refusal>) -> Answer {
         Answer {
-            result,
+            result: res,
             row: NO_ROW,
         }
     }

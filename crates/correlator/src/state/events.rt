@@ -11,7 +11,7 @@ ghost use Rattle.history.specs.History.{idle};
 use super::Correlator;
 use crate::trace::Trace;
 use causality::{Event, MAX_NODES, Place};
-use clock::{Clock, is_node};
+use clock::{Clock, NewEntry, is_node};
 use history::Refusal;
 
 impl<F: Clock, R: Clock> Correlator<F, R> {
@@ -79,7 +79,12 @@ impl<F: Clock, R: Clock> Correlator<F, R> {
     {
         let node = event.node();
         let number = self.trace.len;
-        let _ = self.forward.take(node, event.partner(), follows);
+        let entry = NewEntry {
+            node,
+            partner: event.partner(),
+            prior: follows,
+        };
+        let _ = self.forward.take(entry);
         let index = self.forward.count(number, node).unwrap_or(0);
         self.trace.push(event);
         Place { node, index }
