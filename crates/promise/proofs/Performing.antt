@@ -1,7 +1,8 @@
 -- What one request does, from what its call obeys.
-use Rattle.std.proofs.Common.{◌≡◌, ℕ, ◌-◌, List, ◌++◌, length, take, drop, IfOk, Ok, Err, Result, sym, refl, ap, ◌∙◌, subst, ap₂, arith}
+use Rattle.std.proofs.Common.{◌≡◌, ℕ, ◌-◌, List, ◌++◌, length, take, drop, IfOk, MatchResult, Ok, Err, Result, sym, refl, ap, ◌∙◌, subst, ap₂, arith}
 use borrow.Rule.Slice.PartMut.{post_of}
 use Rattle.std.specs.Option.{option_map}
+use Rattle.std.specs.Result.{IsOkAnd}
 use Rattle.std.proofs.lemmas.List.{length-take-le}
 use Rattle.history.specs.declared.refusal.Refusal.{Refusal}
 use Rattle.history.specs.History.{History}
@@ -21,6 +22,13 @@ reason-valued f (Err e) = refl
 pub made_valued : {X : Type 0} (f : X → Value) (P : X → Type 0) (Q : Value → Type 0) → ((x : X) → P x → Q (f x)) → (r : Result X Refusal) → IfOk r P → IfOk (valued f r) Q
 made_valued f P Q g (Ok x) h = g x h
 made_valued f P Q g (Err e) h = tt
+
+-- a result that is mapped, by a closure that answers f of what it is given
+pub mapped : {X : Type 0} (f : X → Value) {Post : X → Value → Type 0} → ((x : X) (v : Value) → Post x v → v ≡ f x) →
+    (r : Result X Refusal) (s : Result Value Refusal) → MatchResult r (λ x. IsOkAnd s (Post x)) (λ e. s ≡ Err e) → s ≡ valued f r
+mapped f is (Ok x) (Ok v) h = ap Ok (is x v h)
+mapped f is (Ok x) (Err e) h = absurd h
+mapped f is (Err e) s h = h
 
 -- a call that obeys the history performs its request
 pub performed : {X : Type 0} (h h' : History) (q : Request) (c : Call) (f : X → Value) (r : Result X Refusal) (P : X → Type 0) (a : Answer) → call_of q ≡ c → a.result ≡ valued f r → a.row ≡ left_by h q →

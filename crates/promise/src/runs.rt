@@ -39,8 +39,11 @@ fn stamp<F: Clock, R: Clock>(c: &Correlator<F, R>, p: Place, d: u16, lent: Lent)
 {
     let mut row = lent.row;
     let len = lent.len.min(MAX_NODES) as usize;
-    let result = c.stamp(p, d, &mut row.counts[..len]).map(|()| Value::Done);
-    Answer { result, row }
+    let done = c.stamp(p, d, &mut row.counts[0..len]);
+    Answer {
+        result: done.map(|()| Value::Done),
+        row,
+    }
 }
 
 /// Makes a correlator and performs the calls on it, one after another; each answer goes to the place of its call.
