@@ -1,27 +1,25 @@
 //! Feeding a clock the events of a trace from last to first.
 #![tactic(auto)]
 
-ghost use Rattle.std.specs.Prelude.{◌≡◌, ◌≤◌, length, take};
-ghost use Rattle.feeding.specs.Posted.{fed_through, follower, from_last};
+ghost use Rattle.std.specs.Prelude.{◌≡◌, ◌-◌, ◌≤◌, length};
+ghost use Rattle.feeding.specs.Posted.{fed_through, follower};
 ghost use Rattle.records.specs.Messages.{sent_of};
 
 use causality::Event;
 use clock::{Clock, NewEntry};
 use records::Messages;
 
-/// Gives a clock the first `len` events, the last of them first, each send with the entry of its receive.
-pub fn feed_back<C: Clock>(clock: &mut C, events: &[Event], len: u16, sent: &Messages)
-    requires { len ≤ length events.now }
-    ensures { C.Clock.means clock.new ≡ fed_through (C.Clock.means clock.old) (follower (sent_of sent.now) len) (take len events.now) }
+/// Gives a clock some events, the last of them first, each send with the entry of its receive.
+pub fn feed_back<C: Clock>(clock: &mut C, events: &[Event], sent: &Messages)
+    requires { length events.now ≤ 65535 }
+    ensures { C.Clock.means clock.new ≡ fed_through (C.Clock.means clock.old) (follower (sent_of sent.now) (length events.now)) events.now }
 {
-    let mut i = len;
-    while i > 0 {
-        i -= 1;
-        let event = events[i as usize];
+    let len = events.len() as u16;
+    for event in events.iter().rev() {
         let _ = clock.take(NewEntry {
             node: event.node(),
             partner: event.partner(),
-            prior: follower_of(event, sent, len),
+            prior: follower_of(*event, sent, len),
         });
     }
 }
@@ -30,22 +28,16 @@ pub fn feed_back<C: Clock>(clock: &mut C, events: &[Event], len: u16, sent: &Mes
 fn follower_of(event: Event, sent: &Messages, len: u16) -> Option<u16>
     ensures { result ≡ follower (sent_of sent.now) len event }
 {
-    match event {
-        Event::Send(_, m) => match sent.find(m) {
-            Some(item) => from_last(len, item.receipt),
-            None => None,
-        },
-        Event::Local(_) => None,
-        Event::Receive(_, _) => None,
-        Event::Meet(_, _) => None,
-    }
+    let Event::Send(_, m) = event else {
+        return None;
+    };
+    let receipt = sent.find(m)?.receipt?;
+    Some(from_last(len, receipt))
 }
 
-fn from_last(len: u16, event: Option<u16>) -> Option<u16>
-    ensures { result ≡ from_last len event }
+// Event j, counted from the last of len events.
+fn from_last(len: u16, j: u16) -> u16
+    ensures { result ≡ len - 1 - j }
 {
-    match event {
-        Some(j) => Some(len.saturating_sub(1).saturating_sub(j)),
-        None => None,
-    }
+    len.saturating_sub(1).saturating_sub(j)
 }
