@@ -1,19 +1,18 @@
 -- No 0A stands in a line.
 use Rattle.std.proofs.Common.{◌≡◌, ℕ, List, [], ◌∷◌, ◌++◌, codes, decimal, refl, arith}
 use Rattle.causality.specs.declared.Place.{Place}
-use Rattle.std.specs.Int.{IsInRange}
 use Rattle.std.proofs.ByRecursion.{All-append, All-weaker}
 use Rattle.std.proofs.lemmas.Bool.Decides.{nat_tests}
 use Rattle.line_forms.specs.Forms.{Sound, written}
 use Rattle.job_text.specs.Lines.{NoEnd}
-use Rattle.line_forms.specs.Parts.{Small, SoundPlace, placed}
+use Rattle.line_parts.specs.Parts.{Digit, Small, SoundPlace, placed}
 use Rattle.job_text.specs.Texts.{ends}
 use Rattle.line_forms.specs.declared.forms.Line.{Line}
 use Rattle.line_forms.specs.declared.forms.Line.TheVariants.{Nodes, Local, Send, Receive, Meet, Order}
-use Rattle.line_forms.proofs.Reading.{all_digits}
+use Rattle.line_parts.proofs.Reading.{all_digits}
 
 clear-number : (n : ℕ) → Small n → NoEnd (decimal n)
-clear-number n small = All-weaker (IsInRange 48 57) _ (λ x d e. let l = d.0 in omega arith) (decimal n) (all_digits n small)
+clear-number n small = All-weaker Digit _ (λ x d e. let l = d.0 in omega arith) (decimal n) (all_digits n small)
 
 no_ends : (xs : List ℕ) → ends xs ≡ 0 → NoEnd xs
 no_ends [] e = tt

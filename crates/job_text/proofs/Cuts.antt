@@ -4,7 +4,7 @@ use Rattle.std.proofs.ByRecursion.{All-from_get_or}
 use Rattle.std.proofs.lemmas.List.{drop_all, drop-drop, drop_more, get_or-take, get_or-drop, length-take-le}
 use Rattle.std.proofs.lemmas.Bool.Decides.{nat_tests}
 use Rattle.job_text.specs.Lines.{Clear, Cut, FirstEnd, NoEnd, Uncut}
-use Rattle.line_forms.proofs.Reading.{same_run}
+use Rattle.line_parts.proofs.Reading.{same_run}
 
 pub uncut_from : (t : List ℕ) (i : ℕ) → Clear t i (length t) → Uncut (drop i t) (drop i t)
 uncut_from t i h = record {

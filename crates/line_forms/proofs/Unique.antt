@@ -3,23 +3,23 @@ use Rattle.std.proofs.Common.{◌≡◌, ℕ, List, ◌++◌, get_or, drop, code
 use Rattle.causality.specs.declared.Place.{Place}
 use Rattle.std.proofs.lemmas.List.{append_cancel_left}
 use Rattle.line_forms.specs.Forms.{Sound, written}
-use Rattle.line_forms.specs.Parts.{Small, SoundPlace, placed}
+use Rattle.line_parts.specs.Parts.{Small, SoundPlace, placed}
 use Rattle.line_forms.specs.declared.forms.Line.{Line}
 use Rattle.line_forms.specs.declared.forms.Line.TheVariants.{Nodes, Local, Send, Receive, Meet, Order}
-use Rattle.line_forms.proofs.Reading.{same_number, same_place, at_end, at_space, keyed}
+use Rattle.line_parts.proofs.Reading.{same_number, same_place, number_end, number_space, place_end, place_space, keyed}
 
 one : (n m : ℕ) → Small n → Small m → decimal n ≡ decimal m → n ≡ m
-one n m sn sm e = (same_number (at_end n sn refl) (at_end m sm e)).0
+one n m sn sm e = (same_number (number_end n sn refl) (number_end m sm e)).0
 
 two : (key : List ℕ) → get_or key 0 0 ≡ 32 → (n m a b : ℕ) → Small n × Small m → Small a × Small b → decimal n ++ (key ++ decimal m) ≡ decimal a ++ (key ++ decimal b) → (n ≡ a) × (m ≡ b)
 two key space n m a b s t e =
-    let p = same_number (at_space n _ (keyed key (decimal m) space) s.0 refl) (at_space a _ (keyed key (decimal b) space) t.0 e) in
+    let p = same_number (number_space n _ (keyed key (decimal m) space) s.0 refl) (number_space a _ (keyed key (decimal b) space) t.0 e) in
     (p.0, one m b s.1 t.1 (append_cancel_left key _ _ p.1))
 
 places : (p q a b : Place) → SoundPlace p × SoundPlace q → SoundPlace a × SoundPlace b → placed p ++ (codes " to=" ++ placed q) ≡ placed a ++ (codes " to=" ++ placed b) → (p ≡ a) × (q ≡ b)
 places p q a b s t e =
-    let r = same_place (at_space p _ refl s.0 refl) (at_space a _ refl t.0 e) in
-    (r.0, (same_place (at_end q s.1 refl) (at_end b t.1 (ap (drop 4) r.1))).0)
+    let r = same_place (place_space p _ refl s.0 refl) (place_space a _ refl t.0 e) in
+    (r.0, (same_place (place_end q s.1 refl) (place_end b t.1 (ap (drop 4) r.1))).0)
 
 pub unique : (l k : Line) → Sound l → Sound k → written l ≡ written k → l ≡ k
 unique (Nodes n) (Nodes a) s t e = ap Nodes (one n a s t (ap (drop 6) e))

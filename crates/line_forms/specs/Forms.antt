@@ -1,6 +1,6 @@
 -- What each line of the job text spells, one clause for each form, as the format shows them.
 use Rattle.std.specs.Prelude.{◌≡◌, ℕ, List, ◌++◌, codes, decimal}
-use Rattle.line_forms.specs.Parts.{Small, SoundPlace, placed}
+use Rattle.line_parts.specs.Parts.{Small, SoundPlace, placed}
 use Rattle.line_forms.specs.declared.forms.Line.{Line}
 use Rattle.line_forms.specs.declared.forms.Line.TheVariants.{Nodes, Local, Send, Receive, Meet, Order}
 

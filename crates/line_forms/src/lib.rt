@@ -2,6 +2,5 @@
 #![tactic(auto)]
 
 mod forms;
-mod parts;
 
 pub use forms::{Line, one_reading, read_line};

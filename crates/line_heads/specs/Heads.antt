@@ -4,7 +4,7 @@
 --   Splits bs h    which key stands in front of bs, and what follows it
 use Rattle.std.specs.Prelude.{◌≡◌, ℕ, List, ◌++◌, codes, ◌≢◌}
 use Rattle.line_heads.specs.declared.Head.{Head}
-use Rattle.line_heads.specs.declared.Head.TheVariants.{Nodes, Local, Send, Receive, Meet, Close, Op, Order, Ask, Other}
+use Rattle.line_heads.specs.declared.Head.TheVariants.{Nodes, Local, Send, Receive, Meet, Close, Op, Order, Ask}
 
 pub record NoKey (bs : List ℕ) : Type 0 where
   pub nodes : (rest : List ℕ) → bs ≢ codes "nodes=" ++ rest
@@ -27,4 +27,3 @@ Splits bs (Close r) = bs ≡ codes "close=" ++ r.now
 Splits bs (Op r) = bs ≡ codes "op=" ++ r.now
 Splits bs (Order r) = bs ≡ codes "order=" ++ r.now
 Splits bs (Ask r) = bs ≡ codes "ask=" ++ r.now
-Splits bs Other = NoKey bs

@@ -1,7 +1,8 @@
 //! The key that a line of the job text begins with.
 #![tactic(auto)]
 
-ghost use Rattle.line_heads.specs.Heads.{Splits};
+ghost use Rattle.line_heads.specs.Heads.{NoKey, Splits};
+ghost use Rattle.std.specs.Prelude.{MatchOption};
 
 /// The key that a line begins with, and what follows it.
 #[derive(Clone, Copy)]
@@ -24,24 +25,22 @@ pub enum Head<'a> {
     Order(&'a [u8]),
     /// `ask=`
     Ask(&'a [u8]),
-    /// None of these.
-    Other,
 }
 
-/// Splits a line behind its key.
-pub fn head_of<'a>(line: &'a [u8]) -> Head<'a>
-    ensures { Splits line.now result }
+/// Splits a line behind its key; none if it begins with no key.
+pub fn head_of<'a>(line: &'a [u8]) -> Option<Head<'a>>
+    ensures { MatchOption result (NoKey line.now) (Splits line.now) }
 {
     match line {
-        [b'n', b'o', b'd', b'e', b's', b'=', rest @ ..] => Head::Nodes(rest),
-        [b'l', b'o', b'c', b'a', b'l', b'=', rest @ ..] => Head::Local(rest),
-        [b's', b'e', b'n', b'd', b'=', rest @ ..] => Head::Send(rest),
-        [b'r', b'e', b'c', b'v', b'=', rest @ ..] => Head::Receive(rest),
-        [b'm', b'e', b'e', b't', b'=', rest @ ..] => Head::Meet(rest),
-        [b'c', b'l', b'o', b's', b'e', b'=', rest @ ..] => Head::Close(rest),
-        [b'o', b'p', b'=', rest @ ..] => Head::Op(rest),
-        [b'o', b'r', b'd', b'e', b'r', b'=', rest @ ..] => Head::Order(rest),
-        [b'a', b's', b'k', b'=', rest @ ..] => Head::Ask(rest),
-        _ => Head::Other,
+        [b'n', b'o', b'd', b'e', b's', b'=', rest @ ..] => Some(Head::Nodes(rest)),
+        [b'l', b'o', b'c', b'a', b'l', b'=', rest @ ..] => Some(Head::Local(rest)),
+        [b's', b'e', b'n', b'd', b'=', rest @ ..] => Some(Head::Send(rest)),
+        [b'r', b'e', b'c', b'v', b'=', rest @ ..] => Some(Head::Receive(rest)),
+        [b'm', b'e', b'e', b't', b'=', rest @ ..] => Some(Head::Meet(rest)),
+        [b'c', b'l', b'o', b's', b'e', b'=', rest @ ..] => Some(Head::Close(rest)),
+        [b'o', b'p', b'=', rest @ ..] => Some(Head::Op(rest)),
+        [b'o', b'r', b'd', b'e', b'r', b'=', rest @ ..] => Some(Head::Order(rest)),
+        [b'a', b's', b'k', b'=', rest @ ..] => Some(Head::Ask(rest)),
+        _ => None,
     }
 }

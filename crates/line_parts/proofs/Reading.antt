@@ -1,16 +1,18 @@
 -- Numbers and places at the front of a list: there is at most one, and the loop over the digits finds it.
-use Rattle.std.proofs.Common.{◌≡◌, ℕ, ◌+◌, ◌-◌, ◌*◌, ◌<◌, ◌≤◌, List, [], ◌∷◌, ◌++◌, length, get_or, take, drop, decimal, sym, refl, ap, ◌∙◌, subst, ⊎_elim, append_assoc, append-nil, add-zero, arith, length-append, take-append-drop, rules}
+use Rattle.std.proofs.Common.{◌≡◌, ℕ, ◌<◌, ◌≤◌, Bool, false, not, cond, eqb, ltb, Decides, List, [], ◌∷◌, ◌++◌, Option, Some, None, Result, Ok, Err, MatchOption, MatchResult, length, get_or, take, drop, decimal, sym, refl, ap, ◌∙◌, inl, inr, subst, append_assoc, append-nil, one-add, arith, take-append-drop}
 use Rattle.causality.specs.declared.Place.{Place}
-use Rattle.std.specs.Char.{digit_value}
-use Rattle.std.specs.Str.Parse.{AllDigits, digits_value, digits_value_after}
-use Rattle.std.specs.List.{AllByRecursion}
-use Rattle.std.proofs.lemmas.Fmt.{decimal-digits_value, digits_decimal, digits_value-decimal, decimal_nonempty, first_decimal, decimal_injective}
-use Rattle.std.proofs.lemmas.Int.Digits.{digits_value_more, digits_more}
+use Rattle.std.specs.Result.{result_ok}
+use Rattle.std.specs.Option.{unwrap_or}
+use Rattle.std.specs.Str.{IsUtf8}
+use Rattle.std.specs.Str.Parse.{AllDigits, ParsesUnsigned, digits_value, without_leading_plus}
+use Rattle.std.specs.List.{AllByRecursion, position_or_len}
+use Rattle.std.proofs.lemmas.Fmt.{decimal-digits_value, digits_decimal, decimal_digit, decimal_nonempty, first_decimal, decimal_injective, parse-decimal, IsAscii-decimal}
+use Rattle.std.proofs.lemmas.Str.{IsUtf8-from_ascii}
 use Rattle.std.proofs.ByRecursion.{All-from_get_or}
-use Rattle.std.proofs.lemmas.List.{get_or_append_left, get_or-append-add, get_or-take, length-take-le, take_rest, take-append-le}
 use Rattle.std.proofs.lemmas.Str.Parse.{digit_at, numerals_by_value, tells_digits, IsNumeralModel}
-use Rattle.std.proofs.lemmas.Bool.{cases_lt}
-use Rattle.line_parts.specs.Parts.{At, Digit, NumberAt, PlaceAt, Small, SoundPlace, placed}
+use Rattle.std.proofs.lemmas.Bool.{both_ways, cases_Bool, cases_lt, lt-ltb, le-ltb, ne_eqb}
+use Rattle.std.proofs.lemmas.List.Sums.{prefix_len-le-length}
+use Rattle.line_parts.specs.Parts.{At, Digit, NumberAt, PlaceAt, Run, Small, SoundPlace, placed}
 
 own : IsNumeralModel (AllDigits 10) (digits_value 10)
 own = numerals_by_value (AllDigits 10) tells_digits
@@ -97,80 +99,75 @@ pub keyed : (key rest : List ℕ) → get_or key 0 0 ≡ 32 → get_or (key ++ r
 keyed [] rest space = absurd (omega arith)
 keyed (k ∷ key) rest space = space
 
--- The loop over the digits: i bytes are read, and n is their value.
+-- The bytes of a number.
 
-pub record Sofar (s : List ℕ) (i n : ℕ) : Type 0 where
-  pub some : 1 ≤ i
-  pub within : i ≤ length s
-  pub positive : 1 ≤ n
-  pub small : n ≤ 65535
-  pub digits : AllDigits 10 (take i s)
-  pub is : n ≡ digits_value 10 (take i s)
+-- they begin with 1 to 9
+pub begins : (ds : List ℕ) (n : ℕ) → Small n → ds ≡ decimal n → (0 < length ds) × (49 ≤ get_or ds 0 0) × (get_or ds 0 0 ≤ 57)
+begins ds n (pos, small) e =
+    let some = decimal_nonempty n (omega arith) in
+    let d = digit_at (decimal n) 0 (digits_decimal own n (omega arith)) some in
+    subst (λ l. (0 < length l) × (49 ≤ get_or l 0 0) × (get_or l 0 0 ≤ 57)) (sym e) (some, first_decimal n pos (omega arith), d.1)
 
-digit_of : (c : ℕ) → 48 ≤ c → c ≤ 57 → digit_value c ≡ c - 48
-digit_of c lo hi = search rules
+-- what `parse` reads from bytes that begin so is spelt by them
+parsed : (ds : List ℕ) (n : ℕ) → 0 < length ds → 49 ≤ get_or ds 0 0 → get_or ds 0 0 ≤ 57 → ParsesUnsigned {E = ℕ} 16 10 ds (Ok n) → Small n × (ds ≡ decimal n)
+parsed ds n some lo hi h =
+    let plus : eqb (get_or ds 0 0) 43 ≡ false = ne_eqb _ 43 (omega arith) in
+    let same : without_leading_plus ds ≡ ds = rw plus in
+    let all : AllDigits 10 ds = subst (AllDigits 10) same h.0.0.1 in
+    let is : n ≡ digits_value 10 ds = h.1 ∙ ap (digits_value 10) same in
+    let fits : digits_value 10 ds < 65536 = subst (λ l. digits_value 10 l < 65536) same h.0.1 in
+    let spelt : decimal n ≡ ds = ap decimal is ∙ decimal-digits_value own ds all some (λ e. absurd (omega arith)) (omega arith) in (
+      elim (cases_lt 0 n) [
+        | inl lt ↦ (lt, omega arith)
+        | inr le ↦ absurd (let zero : n ≡ 0 = omega arith in let e = ap (λ l. get_or l 0 0) (sym spelt ∙ ap decimal zero ∙ decimal_digit 0 (omega arith)) in omega arith)
+      ],
+      sym spelt,
+    )
 
--- the digits end here
-pub number-here : (s : List ℕ) (i n : ℕ) → Sofar s i n → (get_or s 0 0 ≡ 48 → ⊥) → (Digit (get_or (drop i s) 0 0) → ⊥) → NumberAt s n (take (length s - i) (drop i s))
-number-here s i n h first stop =
-    let long = length-take-le i s h.within in
-    let some = h.some in
-    let pos = h.positive in
-    let small = h.small in
-    let is = h.is in
-    let whole : decimal n ≡ take i s = ap decimal is ∙ decimal-digits_value own (take i s) h.digits (omega arith) (λ e. absurd (first (sym (get_or-take i s 0 0 (omega arith)) ∙ e))) (omega arith) in
-    record {
-      sound = (omega arith, omega arith);
-      spelt = sym ((λ j. whole j ++ take_rest s i j) ∙ take-append-drop i s);
-      stops = λ d. stop (subst (λ l. Digit (get_or l 0 0)) (take_rest s i) d);
-    }
+pub read : {E : Type 0} (ds : List ℕ) (r : Result ℕ E) (o : Option ℕ) → o ≡ result_ok r → 0 < length ds → 49 ≤ get_or ds 0 0 → get_or ds 0 0 ≤ 57 → ParsesUnsigned 16 10 ds r →
+    MatchOption o ((n : ℕ) → Small n → ds ≡ decimal n → ⊥) (λ n. Small n × (ds ≡ decimal n))
+read ds (Ok n) o e some lo hi h = rw e (parsed ds n some lo hi h)
+read ds (Err f) o e some lo hi h = rw e (λ n small spelt. let same = parse-decimal 16 n ds (Err f) small.1 (let s = small.1 in omega arith) spelt h in cc)
 
-module _ (s : List ℕ) (i n : ℕ) (h : Sofar s i n) (lt : i < length s) (lo : 48 ≤ get_or s i 0) (hi : get_or s i 0 ≤ 57) where
-  digits_next : AllDigits 10 (take (i + 1) s)
-  digits_next = digits_more 10 s i lt h.digits (let e = digit_of (get_or s i 0) lo hi in omega arith)
+-- and such bytes are a text
+pub a_text : {T E : Type 0} (P : T → Type 0) (Q : E → Type 0) (ds : List ℕ) (r : Result T E) → None ≡ result_ok r → MatchResult r P (λ e. ¬ (IsUtf8 ds) × Q e) → (n : ℕ) → Small n → ds ≡ decimal n → ⊥
+a_text P Q ds (Ok x) none h n small e = cc
+a_text P Q ds (Err x) none h n small e = h.0 (subst IsUtf8 (sym e) (IsUtf8-from_ascii (decimal n) (IsAscii-decimal n (let s = small.1 in omega arith))))
 
-  value-next : n * 10 + (get_or s i 0 - 48) ≡ digits_value 10 (take (i + 1) s)
-  value-next = let e = digit_of (get_or s i 0) lo hi in let v = digits_value_more 10 s i lt in let is = h.is in omega arith
+-- what `ok()` keeps
+pub kept : {T E : Type 0} (P : T → Type 0) (Q : E → Type 0) (x : T) (r : Result T E) → Some x ≡ result_ok r → MatchResult r P Q → P x
+kept P Q x (Ok y) e h = subst P (let same : y ≡ x = cc in same) h
+kept P Q x (Err f) e h = cc
 
-  -- one more digit
-  pub more : n * 10 + (get_or s i 0 - 48) ≤ 65535 → Sofar s (i + 1) (n * 10 + (get_or s i 0 - 48))
-  more small = let p = h.positive in record { some = omega arith; within = omega arith; positive = omega arith; small = small; digits = digits_next; is = value-next }
+-- ---- the longest run of one class in front
 
--- digits reach no further than the number
-reach : {s : List ℕ} {n : ℕ} {rest : List ℕ} → NumberAt s n rest → (i : ℕ) → i ≤ length s → AllDigits 10 (take i s) → i ≤ length (decimal n)
-reach {s = s} {n = n} {rest = rest} h i within ds =
-    ⊎_elim
-    (λ lt.
-    let here : get_or (take i s) (length (decimal n)) 0 ≡ get_or rest 0 0 = get_or-take i s (length (decimal n)) 0 lt ∙ ap (λ k. get_or s k 0) (sym (add-zero (length (decimal n)))) ∙ ap (λ l. get_or l (length (decimal n) + 0) 0) h.spelt ∙ get_or-append-add (decimal n) rest 0 0 in
-    absurd (h.stops (subst Digit here (digit_at (take i s) (length (decimal n)) ds (omega (arith, length-take-le i s within))))))
-    (λ le. le)
-    (cases_lt (length (decimal n)) i)
+-- how long it is, as `position` and `unwrap_or` tell
+abbrev pub run_len : (ℕ → Bool) → List ℕ → ℕ
+run_len test s = position_or_len (λ b. not (test b)) s
 
-after-append : (a : ℕ) (xs ys : List ℕ) → digits_value_after 10 a (xs ++ ys) ≡ digits_value_after 10 (digits_value_after 10 a xs) ys
-after-append a [] ys = refl
-after-append a (x ∷ xs) ys = after-append (a * 10 + digit_value x) xs ys
+module _ (C : ℕ → Type 0) (test : ℕ → Bool) (decides : (b : ℕ) → Decides (test b) (C b)) (none : C 0 → ⊥) where
+  run_cut : (s : List ℕ) → AllByRecursion C (take (run_len test s) s) × (C (get_or (drop (run_len test s) s) 0 0) → ⊥)
+  run_cut [] = (tt, none)
+  run_cut (b ∷ s) =
+      elim (cases_Bool (test b)) [
+        | inl y ↦ let r = run_cut s in rw (y, one-add) (((decides b).0 y, r.0), r.1)
+        | inr n ↦ rw n (tt, λ c. both_ways _ n ((decides b).1 c))
+      ]
 
-after_ge : (a : ℕ) (ys : List ℕ) → a ≤ digits_value_after 10 a ys
-after_ge a [] = omega arith
-after_ge a (y ∷ ys) = let r = after_ge (a * 10 + digit_value y) ys in omega arith
+  pub run : (s : List ℕ) (r : Option ℕ) (n : ℕ) → r ≡ cond (ltb (run_len test s) (length s)) (Some (run_len test s)) None → n ≡ unwrap_or r (length s) → Run C s (take n s) (drop n s)
+  run s r n e f =
+      let le = prefix_len-le-length (λ b. not (not (test b))) s in
+      let at : n ≡ run_len test s = elim (cases_lt (run_len test s) (length s)) [
+        | inl h ↦ let some = rw (lt-ltb _ _ h) at e in f ∙ ap (λ o. unwrap_or o (length s)) some
+        | inr h ↦ let past = rw (le-ltb _ _ h) at e in f ∙ ap (λ o. unwrap_or o (length s)) past ∙ (let same : length s ≡ run_len test s = omega arith in same)
+      ] in
+      let r = run_cut s in
+      record { whole = take-append-drop n s; all = rw at r.0; stops = rw at r.1 }
 
-value-take : (j : ℕ) (ds : List ℕ) → digits_value 10 (take j ds) ≤ digits_value 10 ds
-value-take j ds = omega (arith, after_ge (digits_value 10 (take j ds)) (drop j ds), sym (after-append 0 (take j ds) (drop j ds)) ∙ ap (digits_value 10) (take-append-drop j ds))
+-- ---- the number in front is what the digits in front spell
 
--- a front of the digits is already too large
-pub too_large : (s : List ℕ) (i n : ℕ) → Sofar s i n → i < length s → 48 ≤ get_or s i 0 → get_or s i 0 ≤ 57 → 65535 < n * 10 + (get_or s i 0 - 48) → (m : ℕ) (rest : List ℕ) → NumberAt s m rest → ⊥
-too_large s i n h lt lo hi big m rest num =
-    let far = reach num (i + 1) (omega arith) (digits_next s i n h lt lo hi) in
-    let same : take (i + 1) s ≡ take (i + 1) (decimal m) = ap (take (i + 1)) num.spelt ∙ take-append-le (i + 1) (decimal m) rest far in
-    let small = num.sound.1 in
-    omega (arith, value-next s i n h lt lo hi, ap (digits_value 10) same, value-take (i + 1) (decimal m), digits_value-decimal own m (omega arith))
+pub number-here : {s ds rest : List ℕ} {n : ℕ} → Run Digit s ds rest → Small n × (ds ≡ decimal n) → NumberAt s n rest
+number-here {rest = rest} h v = record { sound = v.0; spelt = sym h.whole ∙ ap (λ l. l ++ rest) v.1; stops = h.stops }
 
--- a number begins with 1 to 9
-pub begins : (s : List ℕ) (m : ℕ) (rest : List ℕ) → NumberAt s m rest → (0 < length s) × (49 ≤ get_or s 0 0) × (get_or s 0 0 ≤ 57)
-begins s m rest h =
-    let pos = h.sound.0 in
-    let small = h.sound.1 in
-    let some = decimal_nonempty m (omega arith) in
-    let here : get_or s 0 0 ≡ get_or (decimal m) 0 0 = ap (λ l. get_or l 0 0) h.spelt ∙ get_or_append_left (decimal m) rest 0 0 some in
-    let d = digit_at (decimal m) 0 (digits_decimal own m (omega arith)) some in
-    (omega (arith, ap length h.spelt, length-append (decimal m) rest), omega (arith, first_decimal m pos (omega arith)), omega arith)
+pub no_number : {s ds rest : List ℕ} → Run Digit s ds rest → ((n : ℕ) → Small n → ds ≡ decimal n → ⊥) → (n : ℕ) (t : List ℕ) → NumberAt s n t → ⊥
+no_number {ds = ds} {rest = rest} h none n t k = none n k.sound (same_run Digit ds (decimal n) rest t h.all (all_digits n k.sound) h.stops k.stops (h.whole ∙ k.spelt)).0

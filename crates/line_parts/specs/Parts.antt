@@ -9,10 +9,12 @@
 --   Name bs            1 to 8 bytes of A to Z or 0 to 9
 --   At .. bs v rest    bs spells the sound value v, and then rest, which does not go on with it
 --   NumberAt, PlaceAt, NameAt     the same of a number, a place and a name
+--   Run C bs front rest           bs is front, all of the class C, and then rest, which begins with none of it
 use Rattle.std.specs.Prelude.{◌≡◌, ℕ, ◌<◌, true, List, ◌∷◌, ◌++◌, decimal, slice_index}
 use Rattle.causality.specs.declared.Place.{Place}
 use Rattle.history.specs.History.{is_letter, is_name}
 use Rattle.std.specs.Int.{IsInRange}
+use Rattle.std.specs.List.{AllByRecursion}
 
 abbrev pub Small : ℕ → Type 0
 Small n = (0 < n) × (n < 65536)
@@ -49,3 +51,8 @@ PlaceAt = At SoundPlace placed Digit
 
 abbrev pub NameAt : List ℕ → List ℕ → List ℕ → Type 0
 NameAt = At Name (λ bs. bs) Letter
+
+pub record Run (C : ℕ → Type 0) (bs front rest : List ℕ) : Type 0 where
+  pub whole : front ++ rest ≡ bs
+  pub all : AllByRecursion C front
+  pub stops : C (slice_index rest 0) → ⊥

@@ -1,36 +1,41 @@
 //! Readers of the parts of a line of the job text: each takes the bytes and gives a value and what follows it.
 #![tactic(auto)]
 
-ghost use Rattle.std.specs.Prelude.{◌≡◌, ℕ, List, ◌++◌, MatchOption, ◌≢◌};
+ghost use Rattle.std.specs.Prelude.{◌≡◌, ℕ, List, ◌++◌, decimal, MatchOption, ◌≢◌};
 ghost use Rattle.causality.specs.declared.Place.{Place};
-ghost use Rattle.line_parts.specs.Parts.{NameAt, NumberAt, PlaceAt};
+ghost use Rattle.line_parts.specs.Parts.{Digit, Letter, NameAt, NumberAt, PlaceAt, Run, Small};
 
 use causality::Place;
-use names::is_letter;
-
-/// The largest number of the format.
-const MAX_NUMBER: u32 = 65535;
-
-/// The most bytes of a name.
-const MAX_NAME: usize = 8;
+use names::{MAX_NAME, is_letter};
 
 /// The number that the bytes begin with, and what follows it.
 pub fn read_number(s: &[u8]) -> Option<(u16, &[u8])>
     ensures { MatchOption result ((n : ℕ) (rest : List ℕ) → NumberAt s.now n rest → ⊥) (λ x. NumberAt s.now x.0 x.1.now) }
 {
-    let [first @ b'1'..=b'9', ..] = s else {
+    let (digits, rest) = split_digits(s);
+    Some((value_of(digits)?, rest))
+}
+
+/// The digits in front, and what follows them.
+fn split_digits(s: &[u8]) -> (&[u8], &[u8])
+    ensures { Run Digit s.now result.0.now result.1.now }
+{
+    let end = s
+        .iter()
+        .position(|b| !b.is_ascii_digit())
+        .unwrap_or(s.len());
+    s.split_at(end)
+}
+
+/// The number that the bytes spell: at most the largest `u16`, and its first digit is not 0.
+fn value_of(digits: &[u8]) -> Option<u16>
+    ensures { MatchOption result ((n : ℕ) → Small n → digits.now ≢ decimal n) (λ n. Small n × (digits.now ≡ decimal n)) }
+{
+    let first = digits.first()?;
+    if !(b'1'..=b'9').contains(first) {
         return None;
-    };
-    let mut n = (*first - b'0') as u32;
-    let mut i = 1;
-    while i < s.len() && s[i] >= b'0' && s[i] <= b'9' {
-        n = n * 10 + (s[i] - b'0') as u32;
-        if n > MAX_NUMBER {
-            return None;
-        }
-        i += 1;
     }
-    Some((n as u16, &s[i..]))
+    str::from_utf8(digits).ok()?.parse().ok()
 }
 
 /// The place that the bytes begin with, and what follows it.
@@ -47,14 +52,20 @@ pub fn read_place(s: &[u8]) -> Option<(Place, &[u8])>
 pub fn read_name(s: &[u8]) -> Option<(&[u8], &[u8])>
     ensures { MatchOption result ((name rest : List ℕ) → NameAt s.now name rest → ⊥) (λ x. NameAt s.now x.0.now x.1.now) }
 {
-    let mut i = 0;
-    while i < s.len() && is_letter(s[i]) {
-        i += 1;
+    let (name, rest) = split_letters(s);
+    if name.is_empty() || name.len() > MAX_NAME {
+        None
+    } else {
+        Some((name, rest))
     }
-    if i == 0 || i > MAX_NAME {
-        return None;
-    }
-    Some((&s[0..i], &s[i..]))
+}
+
+/// The letters in front, and what follows them.
+fn split_letters(s: &[u8]) -> (&[u8], &[u8])
+    ensures { Run Letter s.now result.0.now result.1.now }
+{
+    let end = s.iter().position(|b| !is_letter(*b)).unwrap_or(s.len());
+    s.split_at(end)
 }
 
 /// What follows the key, if the bytes begin with it.

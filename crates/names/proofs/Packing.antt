@@ -1,8 +1,9 @@
 -- A name in eight places, and the number that they write.
-use Rattle.std.proofs.Common.{◌≡◌, ℕ, zero, suc, ◌+◌, ◌*◌, ◌^◌, ◌<◌, ◌≤◌, true, false, cond, ltb, leb, ◌⊎◌, List, [], ◌∷◌, length, get_or, drop, set, sym, refl, ap, ◌∙◌, inl, inr, arith}
-use Rattle.std.proofs.lemmas.List.{at_drop_more, drop_all, get_or_past, get_or-set_same, get_or-set_other}
-use Rattle.std.proofs.lemmas.Bool.{and_left, and_right, cases_eq, cases_lt, lt-leb, le-leb, lt-ltb, le-ltb}
-use Rattle.std.proofs.lemmas.Bool.Decides.{nat_tests}
+use Rattle.std.proofs.Common.{◌≡◌, ℕ, zero, suc, ◌+◌, ◌*◌, ◌^◌, ◌<◌, ◌≤◌, true, false, ◌&&◌, leb, ◌⊎◌, List, [], ◌∷◌, ◌++◌, length, get_or, drop, replicate, sym, refl, ◌∙◌, inl, inr, arith}
+use Rattle.std.specs.List.{list_all}
+use Rattle.std.proofs.lemmas.List.{at_drop_more, drop_all, get_or_past, get_or-drop}
+use Rattle.std.proofs.lemmas.List.Recursion.{same_from_clauses}
+use Rattle.std.proofs.lemmas.Bool.{and_left, and_right, cases_lt, lt-leb, le-leb}
 use Rattle.history.specs.History.{is_letter, all_letters, is_name}
 use Rattle.names.specs.Names.{value, packed}
 
@@ -18,31 +19,24 @@ no_letters bs h = and_right (leb 1 (length bs)) _ (and_right (leb (length bs) 8)
 pub a_name : (bs : List ℕ) → 0 < length bs → length bs ≤ 8 → all_letters bs ≡ true → is_name bs ≡ true
 a_name bs f g h = rw (le-leb 1 (length bs) f, le-leb (length bs) 8 g, h)
 
-module _ (bs : List ℕ) (i : ℕ) (low : i < length bs) where
-  split : all_letters (drop i bs) ≡ all_letters (get_or bs i 0 ∷ drop (i + 1) bs)
-  split = at_drop_more all_letters bs i 0 low
+-- what `all` answers of the bytes
+pub each_letter : (bs : List ℕ) → list_all is_letter bs ≡ all_letters bs
+each_letter bs = same_from_clauses (list_all is_letter) all_letters (λ b t. is_letter b && t) refl (λ _ _. refl) (λ _ _. refl) bs
 
-  pub letters_stop : is_letter (get_or bs i 0) ≡ false → all_letters (drop i bs) ≡ all_letters bs → all_letters bs ≡ false
-  letters_stop h held = sym held ∙ split ∙ and_left (is_letter (get_or bs i 0)) _ h
+-- ---- a name in front of zeros
 
-  pub letters_more : is_letter (get_or bs i 0) ≡ true → all_letters (drop i bs) ≡ all_letters bs → all_letters (drop (i + 1) bs) ≡ all_letters bs
-  letters_more h held = let s = split in sym (rw h at s) ∙ held
+abbrev pub zeros : ℕ → List ℕ
+zeros n = replicate n 0
 
--- ---- eight places that take in a name from the front
+no-byte : (n k : ℕ) → get_or (zeros n) k 0 ≡ 0
+no-byte zero k = get_or_past (zeros 0) k 0 (omega arith)
+no-byte (suc n) zero = refl
+no-byte (suc n) (suc k) = no-byte n k
 
-abbrev pub Filled : List ℕ → ℕ → List ℕ → Type 0
-Filled bs i places = (k : ℕ) → get_or places k 0 ≡ cond (ltb k i) (get_or bs k 0) 0
-
-pub filled_more : (bs places : List ℕ) (i : ℕ) → i < length places → Filled bs i places → Filled bs (i + 1) (set places i (get_or bs i 0))
-filled_more bs places i low held k =
-    elim (cases_eq k i) [
-      | inl e ↦ rw (e, lt-ltb i (i + 1) (omega arith)) (get_or-set_same places i (get_or bs i 0) 0 low)
-      | inr ne ↦ get_or-set_other places i k (get_or bs i 0) 0 ne ∙ held k ∙ ap (λ t. cond t (get_or bs k 0) 0) (grind (arith, nat_tests))
-    ]
-
-pub filled_all : (bs places : List ℕ) (i : ℕ) → length bs ≤ i → Filled bs i places → (k : ℕ) → get_or places k 0 ≡ get_or bs k 0
-filled_all bs places i end held k =
-    held k ∙ elim (cases_lt k i) [ inl h ↦ rw (lt-ltb k i h) | inr h ↦ rw (le-ltb k i h) (sym (get_or_past bs k 0 (omega arith))) ]
+pub padded : (bs : List ℕ) (n m k : ℕ) → get_or (bs ++ drop m (zeros n)) k 0 ≡ get_or bs k 0
+padded [] n m k = get_or-drop m (zeros n) k 0 ∙ no-byte n (m + k) ∙ sym (get_or_past (zeros 0) k 0 (omega arith))
+padded (b ∷ bs) n m zero = refl
+padded (b ∷ bs) n m (suc k) = padded bs n m k
 
 -- ---- the number of the places
 

@@ -6,31 +6,26 @@ ghost use Rattle.names.specs.Names.{PackingKeeps, PackingOrders, PackingTells, p
 ghost use Rattle.std.specs.Prelude.{◌≡◌, if◌then◌else◌, Some, None};
 
 /// The fewest bytes of a name.
-const FEWEST: usize = 1;
+const MIN_NAME: usize = 1;
 /// The most bytes of a name.
-const MOST: usize = 8;
+pub const MAX_NAME: usize = 8;
 
 /// Whether a byte may stand in a name: A to Z or 0 to 9.
 pub fn is_letter(b: u8) -> bool
     ensures { result ≡ is_letter b }
 {
-    b >= b'A' && b <= b'Z' || b >= b'0' && b <= b'9'
+    matches!(b, b'A'..=b'Z' | b'0'..=b'9')
 }
 
 /// A name as one number of eight bytes, first byte highest, padded at the end with zeros; none of what is no name.
 pub fn pack(name: &[u8]) -> Option<u64>
     ensures { result ≡ (if is_name name.now then Some (packed name.now) else None) }
 {
-    if name.len() < FEWEST || name.len() > MOST {
+    if name.len() < MIN_NAME || name.len() > MAX_NAME || !name.iter().all(|b| is_letter(*b)) {
         return None;
     }
     let mut places = [0; 8];
-    for (i, b) in name.iter().enumerate() {
-        if !is_letter(*b) {
-            return None;
-        }
-        places[i] = *b;
-    }
+    places[..name.len()].copy_from_slice(name);
     Some(u64::from_be_bytes(places))
 }
 

@@ -3,7 +3,7 @@ use Rattle.std.proofs.Common.{◌≡◌, ℕ, ◌+◌, ◌<◌, ◌≤◌, List,
 use Rattle.causality.specs.declared.Place.{Place}
 use Rattle.std.specs.List.{AllByRecursion}
 use Rattle.std.proofs.ByRecursion.{All-push}
-use Rattle.std.proofs.lemmas.List.{length-set, length-take-le, take_more_set}
+use Rattle.std.proofs.lemmas.List.{length-set, length-take-le, take_more_set, drop-drop, drop-set-lt}
 use Rattle.line_parts.specs.Parts.{Digit, PlaceAt, SoundPlace, placed}
 use Rattle.line_parts.proofs.Reading.{no_digit, same_place}
 use Rattle.place_lists.specs.Lists.{Lists, SoundPlaces, Stores, listed}
@@ -66,31 +66,35 @@ ended {done = done} {p = p} h k e small =
       is = h.is ∙ ap (λ l. before done ++ l) (k.spelt ∙ ap (λ l. placed p ++ l) e ∙ append-nil (placed p)) ∙ joins done p;
     }
 
--- the same with the number of places alone
-abbrev pub Counted : List ℕ → List ℕ → ℕ → Type 0
-Counted s rest n = (done : List Place) × Sofar s rest done × (length done ≡ n)
+-- the same with the places in memory, which was `old`
+pub record Stored (s rest : List ℕ) (old : List Place) (n : ℕ) (ps : List Place) : Type 0 where
+  pub long : length ps ≡ 512
+  pub front : Sofar s rest (take n ps)
+  pub behind : drop n ps ≡ drop n old
 
--- and with the places in memory
-abbrev pub Stored : List ℕ → List ℕ → ℕ → List Place → Type 0
-Stored s rest n ps = (length ps ≡ 512) × Sofar s rest (take n ps)
+module _ {s rest after : List ℕ} {old : List Place} {p : Place} (n : ℕ) (small : n < 512) (k : PlaceAt rest p after) (ps : List Place) (h : Stored s rest old n ps) where
+  stays : drop (n + 1) (set ps n p) ≡ drop (n + 1) old
+  stays = drop-set-lt (n + 1) ps n p (omega arith) ∙ sym (drop-drop 1 n ps) ∙ ap (drop 1) h.behind ∙ drop-drop 1 n old
 
-module _ {s rest after : List ℕ} {p : Place} (n : ℕ) (small : n < 512) (k : PlaceAt rest p after) where
-  pub count-more : {next : List ℕ} → Counted s rest n → after ≡ 44 ∷ next → Counted s next (n + 1)
-  count-more (done, h, long) e = (done ++ p ∷ [], more h k e, omega (arith, length-append done (p ∷ [])))
-
-  pub count_ended : Counted s rest n → after ≡ [] → (ps : List Place) × Lists s ps × (length ps ≡ n + 1)
-  count_ended (done, h, long) e = (done ++ p ∷ [], ended h k e (omega arith), omega (arith, length-append done (p ∷ [])))
-
-  pub store_more : {next : List ℕ} (ps : List Place) → Stored s rest n ps → after ≡ 44 ∷ next → Stored s next (n + 1) (set ps n p)
-  store_more {next = next} ps (long, h) e = (length-set ps n p ∙ long, subst (λ l. Sofar s next l) (sym (take_more_set ps n p (omega arith))) (more h k e))
-
-  pub store_ended : (ps : List Place) → Stored s rest n ps → after ≡ [] → Stores s (n + 1) (set ps n p)
-  store_ended ps (long, h) e =
-      let front = length-take-le n ps (omega arith) in
+  pub store_more : {next : List ℕ} → after ≡ 44 ∷ next → Stored s next old (n + 1) (set ps n p)
+  store_more {next = next} e =
+      let long = h.long in
       record {
-        within = omega (arith, length-set ps n p);
-        lists = subst (λ l. Lists s l) (sym (take_more_set ps n p (omega arith))) (ended h k e (omega arith));
+        long = length-set ps n p ∙ h.long;
+        front = subst (λ l. Sofar s next l) (sym (take_more_set ps n p (omega arith))) (more h.front k e);
+        behind = stays;
       }
+
+  pub store_ended : after ≡ [] → Stores s (n + 1) (set ps n p) × (drop (n + 1) (set ps n p) ≡ drop (n + 1) old)
+  store_ended e =
+      let long = h.long in
+      let front = length-take-le n ps (omega arith) in (
+        record {
+          within = omega (arith, length-set ps n p);
+          lists = subst (λ l. Lists s l) (sym (take_more_set ps n p (omega arith))) (ended h.front k e (omega arith));
+        },
+        stays,
+      )
 
 -- ---- what is left of a list of which some places were read
 

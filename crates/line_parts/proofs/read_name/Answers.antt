@@ -1,19 +1,9 @@
-use Rattle.std.proofs.Common.{get_or, rules}
-use Rattle.std.proofs.ByRecursion.{All-more}
-use Rattle.line_parts.specs.Parts.{Letter}
-use Rattle.line_parts.proofs.Naming.{name_here, name_long, past_end, tested_not}
+use Rattle.std.proofs.Common.{rules}
+use Rattle.line_parts.proofs.Naming.{name_here, name_long}
 use Rattle.line_parts.proofs.read_name.Goals as goal
 
-pub loop-i-preserved : goal.loop-i-preserved
-loop-i-preserved c = (search rules, All-more Letter c.args.s.now c.loop-i.i 0 (search rules) c.loop-i.invariant.1 (search rules))
+pub returns-then-name-gt-MAX_NAME : goal.returns-then-name-gt-MAX_NAME
+returns-then-name-gt-MAX_NAME c n t h = let long = name_long c.split_letters.ensures n t h in search rules
 
-pub returns-then-i-eq0 : goal.returns-then-i-eq0
-returns-then-i-eq0 c n rest h =
-    let stop : Letter (get_or c.args.s.now c.loop-i.i 0) → ⊥ = search (rules, past_end, tested_not) in
-    let e = name_long _ _ c.loop-i.invariant.0 c.loop-i.invariant.1 stop n rest h in
-    search rules
-
-pub returns : goal.returns
-returns c =
-    let stop : Letter (get_or c.args.s.now c.loop-i.i 0) → ⊥ = search (rules, past_end, tested_not) in
-    name_here _ _ c.loop-i.invariant.0 c.loop-i.invariant.1 stop (search rules) (search rules)
+pub returns-else-name-gt-MAX_NAME : goal.returns-else-name-gt-MAX_NAME
+returns-else-name-gt-MAX_NAME c = name_here c.split_letters.ensures (search rules) (search rules)

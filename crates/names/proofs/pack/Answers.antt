@@ -1,31 +1,26 @@
-use Rattle.std.proofs.Common.{get_or, Some, sym, ap, ◌∙◌, inl, inr, arith}
-use Rattle.std.proofs.lemmas.List.{at_drop_all, length-set}
-use Rattle.history.specs.History.{all_letters}
-use Rattle.names.proofs.Packing.{no_name, no_letters, a_name, letters_stop, letters_more, filled_more, filled_all, places_number}
+use Rattle.std.proofs.Common.{◌≡◌, ◌++◌, length, drop, Some, true, sym, ap, ◌∙◌, inl, inr, arith, rules, tests}
+use Rattle.std.proofs.lemmas.Iterator.{YieldsList-from_slice}
+use Rattle.std.proofs.lemmas.Iterator.Search.{all_from_yields_List}
+use Rattle.history.specs.History.{is_letter, all_letters}
+use Rattle.names.proofs.Packing.{no_name, no_letters, a_name, each_letter, padded, places_number, zeros}
 use Rattle.names.proofs.pack.Goals as goal
+use Rattle.names.proofs.pack.Goals.{then-name-lt-MIN_NAME-via-then-name-lt-MIN_NAME, then-name-lt-MIN_NAME-via-else-name-lt-MIN_NAME+then-name-gt-MAX_NAME, then-name-lt-MIN_NAME-via-else-name-lt-MIN_NAME+else-name-gt-MAX_NAME+then-not-all}
 
-pub returns-then-name-lt-FEWEST : goal.returns-then-name-lt-FEWEST
-returns-then-name-lt-FEWEST c = rw (no_name c.args.name.now (elim c.then-name-lt-FEWEST.either [ inl h ↦ inl h | inr h ↦ inr h.1 ]))
-
-pub returns-then-not-is_letter : goal.returns-then-not-is_letter
-returns-then-not-is_letter c =
+pub returns-then-name-lt-MIN_NAME : goal.returns-then-name-lt-MIN_NAME
+returns-then-name-lt-MIN_NAME c =
     let bs = c.args.name.now in
-    rw (no_letters bs (letters_stop bs c.loop-i.i c.loop-i-test.true (sym c.if-not-is_letter.ensures) c.loop-i.invariant.1))
-
-pub loop-i-preserved : goal.loop-i-preserved
-loop-i-preserved c =
-    let bs = c.args.name.now in
-    let i = c.loop-i.i in
-    let long = c.loop-i.invariant.0 in (
-      length-set c.loop-i.places i (get_or bs i 0) ∙ long,
-      letters_more bs i c.loop-i-test.true (sym c.if-not-is_letter.ensures) c.loop-i.invariant.1,
-      filled_more bs c.loop-i.places i (omega arith) c.loop-i.invariant.2,
-    )
+    elim c.then-name-lt-MIN_NAME.branch [
+      | then-name-lt-MIN_NAME-via-then-name-lt-MIN_NAME w ↦ rw (no_name bs (inl w.if-name-lt-MIN_NAME.true))
+      | then-name-lt-MIN_NAME-via-else-name-lt-MIN_NAME+then-name-gt-MAX_NAME w ↦ rw (no_name bs (inr w.if-name-gt-MAX_NAME.true))
+      | then-name-lt-MIN_NAME-via-else-name-lt-MIN_NAME+else-name-gt-MAX_NAME+then-not-all w ↦
+          let all = all_from_yields_List is_letter _ _ w.all.result w.all.ensures.ran (YieldsList-from_slice bs cc) (λ x b q k. search (rules, tests)) in
+          rw (no_letters bs (sym (each_letter bs) ∙ sym all ∙ w.if-not-all.true))
+    ]
 
 pub returns : goal.returns
 returns c =
     let bs = c.args.name.now in
-    let i = c.loop-i.i in
-    let letters = sym c.loop-i.invariant.1 ∙ at_drop_all all_letters bs i (omega arith) in
-    let same = filled_all bs c.loop-i.places i (omega arith) c.loop-i.invariant.2 in
-    rw (a_name bs (omega arith) (omega arith) letters) (ap Some (omega (arith, places_number bs c.loop-i.places same)))
+    let all = all_from_yields_List is_letter _ _ c.all.result c.all.ensures.ran (YieldsList-from_slice bs cc) (λ x b q k. search (rules, tests)) in
+    let letters : all_letters bs ≡ true = sym (each_letter bs) ∙ sym all ∙ c.if-not-all.false in
+    let number = places_number bs (c.copy_from_slice.new.self ++ drop (length bs) (zeros 8)) (λ k. rw c.copy_from_slice.ensures.after (padded bs 8 (length bs) k)) in
+    rw (a_name bs c.if-name-lt-MIN_NAME.false c.if-name-gt-MAX_NAME.false letters) (ap Some (omega (arith, number)))

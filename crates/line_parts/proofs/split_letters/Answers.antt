@@ -1,0 +1,15 @@
+use Rattle.std.proofs.Common.{ℕ, Bool, not, rules, tests}
+use Rattle.std.proofs.lemmas.Iterator.{YieldsList-from_slice}
+use Rattle.std.proofs.lemmas.Iterator.Search.{position_from_yields_List}
+use Rattle.history.specs.History.{is_letter}
+use Rattle.line_parts.specs.Parts.{Letter}
+use Rattle.line_parts.proofs.Reading.{run}
+use Rattle.line_parts.proofs.Naming.{no_letter}
+use Rattle.line_parts.proofs.split_letters.Goals as goal
+
+pub returns : goal.returns
+returns c =
+    let s = c.args.s.now in
+    let test : ℕ → Bool = λ b. not (is_letter b) in
+    let e = position_from_yields_List test _ _ c.position.result c.position.ensures.ran (YieldsList-from_slice s cc) (λ x b q k. search (rules, tests)) in
+    rw (c.split_at.ensures.front, c.split_at.ensures.back) (run Letter is_letter (λ b. ((λ y. y), λ y. y)) (no_letter 0 (search rules)) s c.position.result c.unwrap_or-end.result e c.unwrap_or-end.ensures)
