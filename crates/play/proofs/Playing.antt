@@ -1,9 +1,11 @@
 -- A text that is played up to a line, and one line more.
-use Rattle.std.proofs.Common.{◌≡◌, ℕ, ◌+◌, ◌*◌, ◌≤◌, List, [], ◌∷◌, ◌++◌, length, take, Option, sym, refl, ap, ◌∙◌, subst, append_assoc, append-nil, add-zero, arith, length-append}
+use Rattle.std.proofs.Common.{◌≡◌, ℕ, ◌+◌, ◌*◌, ◌≤◌, List, [], ◌∷◌, ◌++◌, length, take, Option, Result, sym, refl, ap, ◌∙◌, subst, append_assoc, append-nil, add-zero, arith, length-append}
 use Rattle.std.specs.List.{AllByRecursion}
 use Rattle.std.proofs.lemmas.List.{nil_from_length}
 use Rattle.answer_lines.specs.Output.{Wrote}
 use Rattle.answer_lines.proofs.Writes.{wrote_then, wrote_as}
+use Rattle.causality.specs.declared.CausalOrder.{CausalOrder}
+use Rattle.history.specs.declared.refusal.Refusal.{Refusal}
 use Rattle.history.specs.Calls.{next_history}
 use Rattle.history.specs.History.{History, idle}
 use Rattle.job_text.specs.Lines.{Cut, Uncut}
@@ -12,7 +14,6 @@ use Rattle.job_text.proofs.Texts.{next-line, no_next}
 use Rattle.line_forms.specs.Forms.{Sound, written}
 use Rattle.line_forms.specs.declared.forms.Line.{Line}
 use Rattle.line_forms.proofs.Unique.{unique}
-use Rattle.play.specs.declared.reports.Report.{Report}
 use Rattle.play.specs.declared.text.PlayRefusal.{PlayRefusal}
 use Rattle.play.specs.declared.text.PlayRefusal.TheVariants.{TooLong, Malformed, ShortOut}
 use Rattle.play.specs.Plays.{Answered, Correlated, LinePlayed, Plays, Unfit, history_after, refusal_bytes, report_bytes}
@@ -20,7 +21,7 @@ use Rattle.play.specs.Reports.{Reported, call_of}
 
 -- ---- one line more
 
-plays_push : (h : History) (k : ℕ) (ls : List Line) (bs : List ℕ) (l : Line) (r : Option Report) → Plays h k ls bs → Reported (history_after h ls) l r → Plays h k (ls ++ l ∷ []) (bs ++ report_bytes (k + length ls) r)
+plays_push : (h : History) (k : ℕ) (ls : List Line) (bs : List ℕ) (l : Line) (r : Result (Option CausalOrder) Refusal) → Plays h k ls bs → Reported (history_after h ls) l r → Plays h k (ls ++ l ∷ []) (bs ++ report_bytes (k + length ls) r)
 plays_push h k [] bs l r p q = (r, [], q, ap (λ b. b ++ report_bytes (k + 0) r) p ∙ ap (λ n. report_bytes n r) (add-zero k) ∙ sym (append-nil (report_bytes k r)), refl)
 plays_push h k (m ∷ ls) bs l r p q =
     let n : k + length (m ∷ ls) ≡ (k + 1) + length ls = omega arith in (
@@ -42,15 +43,14 @@ wrote_none out at h = record { ends = omega arith; fits = h; long = refl; front 
 -- ---- a text, up to a line
 
 -- the lines `done` were played, from the history h and the output `old`
-pub record Going (Good : Type 0) (h : History) (done : List Line) (old : List ℕ) (at : ℕ) (new : List ℕ) (h' : History) : Type 0 where
-  pub good : Good
+pub record Going (h : History) (done : List Line) (old : List ℕ) (at : ℕ) (new : List ℕ) (h' : History) : Type 0 where
   pub bytes : List ℕ
   pub plays : Plays h 1 done bytes
   pub wrote : Wrote old 0 bytes new at
   pub after : h' ≡ history_after h done
 
 -- k lines of the text are done, and `left` is what is left of it
-pub record Playing (Pre Good : Type 0) (text : List ℕ) (n k : ℕ) (left : List ℕ) (h : History) (old : List ℕ) (at : ℕ) (new : List ℕ) (h' : History) : Type 0 where
+pub record Playing (text : List ℕ) (n k : ℕ) (left : List ℕ) (h : History) (old : List ℕ) (at : ℕ) (new : List ℕ) (h' : History) : Type 0 where
   pub lawful : Lawful text n
   pub done : List Line
   pub todo : List Line
@@ -59,9 +59,9 @@ pub record Playing (Pre Good : Type 0) (text : List ℕ) (n k : ℕ) (left : Lis
   pub count : length done ≡ k
   pub left_is : left ≡ spelt todo
   pub room : at ≤ 32 * k
-  pub going : Pre → Going Good h done old at new h'
+  pub going : Going h done old at new h'
 
-pub begin : {Good : Type 0} {text : List ℕ} {n : ℕ} {left : List ℕ} (h : History) (old : List ℕ) → Lawful text n → left ≡ text → Playing Good Good text n 0 left h old 0 old h
+pub begin : {text : List ℕ} {n : ℕ} {left : List ℕ} (h : History) (old : List ℕ) → Lawful text n → left ≡ text → Playing text n 0 left h old 0 old h
 begin h old lawful e = record {
   lawful = lawful;
   done = [];
@@ -71,32 +71,30 @@ begin h old lawful e = record {
   count = refl;
   left_is = e ∙ lawful.all.is ∙ append-nil (spelt lawful.all.lines);
   room = omega arith;
-  going = λ good. record { good = good; bytes = []; plays = refl; wrote = wrote_none old 0 (omega arith); after = refl };
+  going = record { bytes = []; plays = refl; wrote = wrote_none old 0 (omega arith); after = refl };
 }
 
 -- no line is left
-pub done_all : {Pre Good : Type 0} {text left : List ℕ} {n k : ℕ} {h h' : History} {old new : List ℕ} {at : ℕ}
-    → (p : Playing Pre Good text n k left h old at new h') → p.todo ≡ [] → 32 * n ≤ length old → Pre → Good × Answered h text old at new h'
-done_all {n = n} {h = h} {h' = h'} p none room pre =
+pub done_all : {text left : List ℕ} {n k : ℕ} {h h' : History} {old new : List ℕ} {at : ℕ}
+    → (p : Playing text n k left h old at new h') → p.todo ≡ [] → 32 * n ≤ length old → Answered h text old at new h'
+done_all {n = n} {h = h} {h' = h'} p none room =
     let lines = p.split ∙ ap (λ t. p.done ++ t) none ∙ append-nil p.done in
-    let g = p.going pre in (
-      g.good,
-      record {
-        count = n;
-        lawful = p.lawful;
-        room = room;
-        bytes = g.bytes;
-        plays = subst (λ ls. Plays h 1 ls g.bytes) (sym lines) g.plays;
-        wrote = g.wrote;
-        after = subst (λ ls. h' ≡ history_after h ls) (sym lines) g.after;
-      },
-    )
+    let g = p.going in
+    record {
+      count = n;
+      lawful = p.lawful;
+      room = room;
+      bytes = g.bytes;
+      plays = subst (λ ls. Plays h 1 ls g.bytes) (sym lines) g.plays;
+      wrote = g.wrote;
+      after = subst (λ ls. h' ≡ history_after h ls) (sym lines) g.after;
+    }
 
 -- one line more
-pub one_more : {Pre Good Good' : Type 0} {text left line left' : List ℕ} {n k : ℕ} {h h' h'' : History} {old new new' : List ℕ} {at to : ℕ} (call : Line)
-    → Playing Pre Good text n k left h old at new h' → Cut left line left' → Sound call × (line ≡ written call) → to ≤ at + 32
-    → (Good → Good' × LinePlayed h' (k + 1) call new at new' to h'') → Playing Pre Good' text n (k + 1) left' h old to new' h''
-one_more {k = k} {h = h} call p cut read room step =
+pub one_more : {text left line left' : List ℕ} {n k : ℕ} {h h' h'' : History} {old new new' : List ℕ} {at to : ℕ} (call : Line)
+    → Playing text n k left h old at new h' → Cut left line left' → Sound call × (line ≡ written call) → to ≤ at + 32
+    → LinePlayed h' (k + 1) call new at new' to h'' → Playing text n (k + 1) left' h old to new' h''
+one_more {k = k} {h = h} call p cut read room l =
     let next = next-line p.todo p.sound p.left_is cut in
     let same : next.one ≡ call = unique next.one call next.sound.0 read.0 (sym next.line_is ∙ read.1) in
     let more : p.todo ≡ call ∷ next.more = next.are ∙ ap (λ l. l ∷ next.more) same in
@@ -111,13 +109,10 @@ one_more {k = k} {h = h} call p cut read room step =
       count = omega (arith, length-append p.done (call ∷ []));
       left_is = next.rest_is;
       room = omega arith;
-      going = λ pre.
-          let g = p.going pre in
-          let s = step g.good in
-          let l = s.1 in
+      going =
+          let g = p.going in
           let number : k + 1 ≡ 1 + length p.done = omega arith in
           record {
-            good = s.0;
             bytes = g.bytes ++ report_bytes (1 + length p.done) l.report;
             plays = plays_push h 1 p.done g.bytes call l.report g.plays (subst (λ x. Reported x call l.report) g.after l.reported);
             wrote = wrote_then g.bytes _ g.wrote (wrote_as (ap (λ n. report_bytes n l.report) number) l.wrote);
@@ -126,21 +121,21 @@ one_more {k = k} {h = h} call p cut read room step =
     }
 
 -- as many lines are done as there are
-pub none_left : {Pre Good : Type 0} {text left : List ℕ} {n k : ℕ} {h h' : History} {old new : List ℕ} {at : ℕ}
-    → (p : Playing Pre Good text n k left h old at new h') → n ≤ k → p.todo ≡ []
+pub none_left : {text left : List ℕ} {n k : ℕ} {h h' : History} {old new : List ℕ} {at : ℕ}
+    → (p : Playing text n k left h old at new h') → n ≤ k → p.todo ≡ []
 none_left p le =
     let all = p.lawful.all.count in
     let counted = p.count in
     nil_from_length p.todo (omega (arith, ap length p.split, length-append p.done p.todo))
 
 -- no line is left to read
-pub no_more : {Pre Good : Type 0} {text left rest : List ℕ} {n k : ℕ} {h h' : History} {old new : List ℕ} {at : ℕ}
-    → (p : Playing Pre Good text n k left h old at new h') → Uncut left rest → p.todo ≡ []
+pub no_more : {text left rest : List ℕ} {n k : ℕ} {h h' : History} {old new : List ℕ} {at : ℕ}
+    → (p : Playing text n k left h old at new h') → Uncut left rest → p.todo ≡ []
 no_more p end = no_next p.todo p.left_is end
 
 -- the next line is one that is read
-pub readable : {Pre Good : Type 0} {text left line left' : List ℕ} {n k : ℕ} {h h' : History} {old new : List ℕ} {at : ℕ}
-    → Playing Pre Good text n k left h old at new h' → Cut left line left' → ((l : Line) → Sound l → line ≡ written l → ⊥) → ⊥
+pub readable : {text left line left' : List ℕ} {n k : ℕ} {h h' : History} {old new : List ℕ} {at : ℕ}
+    → Playing text n k left h old at new h' → Cut left line left' → ((l : Line) → Sound l → line ≡ written l → ⊥) → ⊥
 readable p cut none =
     let next = next-line p.todo p.sound p.left_is cut in
     none next.one next.sound.0 next.line_is

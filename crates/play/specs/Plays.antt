@@ -10,27 +10,30 @@
 --   Answered ..             the text is lawful, the output has room for it, and was written as its lines are answered
 --   Unfit text room e       the text is refused with e, given an output of `room` bytes
 --   Played ..               what `play` does: it answers the text, or refuses it and alters nothing
+--   unplayed f              the refusal of a text with the fault f
 --   number_of e             the number of the refusal of a text
 --   refusal_bytes e         the line that tells of it
 --   Correlated ..           what `correlate` writes
 use Rattle.std.specs.Prelude.{◌≡◌, ℕ, ◌+◌, ◌*◌, ◌<◌, ◌≤◌, List, [], ◌∷◌, ◌++◌, length, Some, None, Ok, Err, Option, Result}
 use Rattle.answer_lines.specs.Output.{Wrote, order_line, refused_line, refused_text}
+use Rattle.causality.specs.declared.CausalOrder.{CausalOrder}
+use Rattle.history.specs.declared.refusal.Refusal.{Refusal}
 use Rattle.history.specs.Calls.{next_history}
 use Rattle.history.specs.History.{History, idle}
 use Rattle.history.specs.Refusals.{number}
 use Rattle.job_text.specs.Texts.{Breaks, Lawful, TooMuch}
 use Rattle.line_forms.specs.declared.forms.Line.{Line}
-use Rattle.play.specs.declared.reports.Report.{Report}
+use Rattle.job_text.specs.declared.scan.Fault.{Fault}
 use Rattle.play.specs.declared.text.PlayRefusal.{PlayRefusal}
 use Rattle.play.specs.declared.text.PlayRefusal.TheVariants.{TooLong, Malformed, ShortOut}
 use Rattle.play.specs.Reports.{Reported, call_of}
 
 -- ---- lines
 
-abbrev pub report_bytes : ℕ → Option Report → List ℕ
-report_bytes k None = []
-report_bytes k (Some (Report.Refused e)) = refused_line k (number e)
-report_bytes k (Some (Report.Ordered o)) = order_line k o
+abbrev pub report_bytes : ℕ → Result (Option CausalOrder) Refusal → List ℕ
+report_bytes k (Ok None) = []
+report_bytes k (Ok (Some o)) = order_line k o
+report_bytes k (Err e) = refused_line k (number e)
 
 abbrev pub history_after : History → List Line → History
 history_after h [] = h
@@ -40,11 +43,11 @@ history_after h (l ∷ ls) = history_after (next_history h (call_of l)) ls
 abbrev pub Plays : History → ℕ → List Line → List ℕ → Type 0
 Plays h k [] bs = bs ≡ []
 Plays h k (l ∷ ls) bs =
-    (r : Option Report) × (rest : List ℕ) × Reported h l r × (bs ≡ report_bytes k r ++ rest) × Plays (next_history h (call_of l)) (k + 1) ls rest
+    (r : Result (Option CausalOrder) Refusal) × (rest : List ℕ) × Reported h l r × (bs ≡ report_bytes k r ++ rest) × Plays (next_history h (call_of l)) (k + 1) ls rest
 
 -- line k, found at the history h: its report is written from `at` up to `to`, and h' is the history that its call leaves
 pub record LinePlayed (h : History) (k : ℕ) (l : Line) (old : List ℕ) (at : ℕ) (new : List ℕ) (to : ℕ) (h' : History) : Type 0 where
-  pub report : Option Report
+  pub report : Result (Option CausalOrder) Refusal
   pub reported : Reported h l report
   pub wrote : Wrote old at (report_bytes k report) new to
   pub after : h' ≡ next_history h (call_of l)
@@ -82,6 +85,11 @@ abbrev pub number_of : PlayRefusal → ℕ
 number_of TooLong = 21
 number_of (Malformed k) = 20
 number_of ShortOut = 22
+
+-- why a text with this fault is not played
+abbrev pub unplayed : Fault → PlayRefusal
+unplayed Fault.TooLong = TooLong
+unplayed (Fault.Malformed k) = Malformed k
 
 abbrev pub refusal_bytes : PlayRefusal → List ℕ
 refusal_bytes TooLong = refused_text (number_of TooLong)

@@ -1,13 +1,12 @@
 -- The call that a line of the job text spells, and what is reported of it, given the history that it finds.
-use Rattle.std.specs.Prelude.{◌≡◌, Some, None, Ok, Err, Option, Result}
+use Rattle.std.specs.Prelude.{◌≡◌, IfOk, Some, None, Option, Result}
 use Rattle.causality.specs.declared.CausalOrder.{CausalOrder}
 use Rattle.line_forms.specs.declared.forms.Line.{Line}
 use Rattle.line_forms.specs.declared.forms.Line.TheVariants.{Nodes, Local, Send, Receive, Meet, Order}
 use Rattle.history.specs.declared.refusal.Refusal.{Refusal}
 use Rattle.history.specs.History.{History}
 use Rattle.history.specs.Calls.{Call, refusal}
-use Rattle.history.specs.Answers.{OrderOf}
-use Rattle.play.specs.declared.reports.Report.{Report}
+use Rattle.history.specs.Answers.{reason, OrderOf}
 
 abbrev pub call_of : Line → Call
 call_of (Nodes n) = Call.start n
@@ -17,24 +16,15 @@ call_of (Receive a m) = Call.receive a m
 call_of (Meet a b) = Call.meet a b
 call_of (Order p q) = Call.order p q
 
--- what is reported of a call of which only a refusal is
-abbrev pub quiet : {X : Type 0} → Result X Refusal → Option Report
-quiet (Ok x) = None
-quiet (Err e) = Some (Report.Refused e)
+-- what an accepted call has to tell: an order, for the line that asks for one
+abbrev pub Told : History → Line → Option CausalOrder → Type 0
+Told h (Nodes n) o = o ≡ None
+Told h (Local a) o = o ≡ None
+Told h (Send a m) o = o ≡ None
+Told h (Receive a m) o = o ≡ None
+Told h (Meet a b) o = o ≡ None
+Told h (Order p q) o = (x : CausalOrder) × (o ≡ Some x) × OrderOf h p q x
 
-abbrev pub if_refused : Option Refusal → Option Report
-if_refused None = None
-if_refused (Some e) = Some (Report.Refused e)
-
--- an order is reported, or its refusal
-abbrev pub OrderReport : Option Refusal → (CausalOrder → Type 0) → Option Report → Type 0
-OrderReport None Right r = (o : CausalOrder) × (r ≡ Some (Report.Ordered o)) × Right o
-OrderReport (Some e) Right r = r ≡ Some (Report.Refused e)
-
-abbrev pub Reported : History → Line → Option Report → Type 0
-Reported h (Nodes n) r = r ≡ if_refused (refusal h (Call.start n))
-Reported h (Local a) r = r ≡ if_refused (refusal h (Call.local a))
-Reported h (Send a m) r = r ≡ if_refused (refusal h (Call.send a m))
-Reported h (Receive a m) r = r ≡ if_refused (refusal h (Call.receive a m))
-Reported h (Meet a b) r = r ≡ if_refused (refusal h (Call.meet a b))
-Reported h (Order p q) r = OrderReport (refusal h (Call.order p q)) (OrderOf h p q) r
+-- what is reported of a line: its call's refusal, if the history that it finds refuses it, or else what it has to tell
+abbrev pub Reported : History → Line → Result (Option CausalOrder) Refusal → Type 0
+Reported h l r = (reason r ≡ refusal h (call_of l)) × IfOk r (Told h l)

@@ -1,9 +1,8 @@
 //! The call that a line spells, and what is reported of it.
 
-ghost use Rattle.correlator.specs.State.{Sound, history};
-ghost use Rattle.history.specs.Calls.{next_history};
-ghost use Rattle.play.specs.Reports.{Reported, call_of, quiet};
-ghost use Rattle.std.specs.Prelude.{◌≡◌};
+ghost use Rattle.correlator.specs.Told.{history};
+ghost use Rattle.history.specs.Answers.{Obeys};
+ghost use Rattle.play.specs.Reports.{Told, call_of};
 
 use causality::CausalOrder;
 use clock::Clock;
@@ -11,38 +10,19 @@ use correlator::Correlator;
 use history::Refusal;
 use line_forms::Line;
 
-/// What a line of the output tells.
-#[derive(Clone, Copy)]
-pub enum Report {
-    /// The call was refused.
-    Refused(Refusal),
-    /// The order of two events.
-    Ordered(CausalOrder),
-}
+/// What a line of the output tells: the order of two events or a refusal, or nothing.
+pub type Report = Result<Option<CausalOrder>, Refusal>;
 
-/// Makes the call that a line spells; answers what is to be reported of it, if anything.
-pub fn answer<F: Clock, R: Clock>(c: &mut Correlator<F, R>, line: Line) -> Option<Report>
-    ensures { Sound F.Clock.means R.Clock.means c.old → Sound F.Clock.means R.Clock.means c.new × (history c.new ≡ next_history (history c.old) (call_of line)) × Reported (history c.old) line result }
+/// Makes the call that a line spells; answers what is to be reported of it.
+pub fn answer<F: Clock, R: Clock>(c: &mut Correlator<F, R>, line: Line) -> Report
+    ensures { Obeys (history c.old) (call_of line) result (Told (history c.old) line) (history c.new) }
 {
     match line {
-        Line::Nodes(n) => of_call(c.start(n)),
-        Line::Local(a) => of_call(c.local(a)),
-        Line::Send(a, m) => of_call(c.send(a, m)),
-        Line::Receive(a, m) => of_call(c.receive(a, m)),
-        Line::Meet(a, b) => of_call(c.meet(a, b)),
-        Line::Order(p, q) => match c.order(p, q) {
-            Ok(order) => Some(Report::Ordered(order)),
-            Err(refusal) => Some(Report::Refused(refusal)),
-        },
-    }
-}
-
-// A call of which only a refusal is reported.
-fn of_call<T: Drop>(res: Result<T, Refusal>) -> Option<Report>
-    ensures { result ≡ quiet res }
-{
-    match res {
-        Ok(_) => None,
-        Err(refusal) => Some(Report::Refused(refusal)),
+        Line::Nodes(n) => c.start(n).map(|()| None),
+        Line::Local(a) => c.local(a).map(|_| None),
+        Line::Send(a, m) => c.send(a, m).map(|_| None),
+        Line::Receive(a, m) => c.receive(a, m).map(|_| None),
+        Line::Meet(a, b) => c.meet(a, b).map(|_| None),
+        Line::Order(p, q) => c.order(p, q).map(Some),
     }
 }

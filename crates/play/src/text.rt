@@ -1,11 +1,11 @@
 //! The play of a whole text.
 
-ghost use Rattle.std.specs.Prelude.{◌≡◌, ◌+◌, ◌≤◌, length, IfOk, Some};
+ghost use Rattle.std.specs.Prelude.{◌≡◌, ◌+◌, ◌≤◌, length, IfOk};
 ghost use Rattle.answer_lines.specs.Output.{Wrote};
-ghost use Rattle.correlator.specs.State.{Sound, history};
-ghost use Rattle.play.specs.Plays.{Correlated, LinePlayed, Played, number_of, refusal_bytes, report_bytes};
+ghost use Rattle.correlator.specs.Told.{history};
+ghost use Rattle.play.specs.Plays.{Correlated, LinePlayed, Played, number_of, refusal_bytes, unplayed};
 
-use crate::reports::{Report, answer};
+use crate::reports::answer;
 use answer_lines::{put_order, put_refused, put_refused_text};
 use clock::Clock;
 use correlator::Correlator;
@@ -16,7 +16,7 @@ use line_forms::{Line, read_line};
 pub const LINE_ROOM: usize = 32;
 
 /// Why a text is not played.
-#[derive(Clone, Copy)]
+#[derive(Clone, Copy, PartialEq, Eq, Debug)]
 pub enum PlayRefusal {
     /// 21: the text has more than 32,768 bytes or 1,024 lines.
     TooLong,
@@ -24,6 +24,29 @@ pub enum PlayRefusal {
     Malformed(u16),
     /// 22: the output has less than 32 bytes for each line.
     ShortOut,
+}
+
+impl From<Fault> for PlayRefusal {
+    ghost from_gives = { λ f e. e ≡ unplayed f };
+
+    fn from(fault: Fault) -> PlayRefusal {
+        match fault {
+            Fault::TooLong => PlayRefusal::TooLong,
+            Fault::Malformed(line) => PlayRefusal::Malformed(line),
+        }
+    }
+}
+
+impl From<PlayRefusal> for u8 {
+    ghost from_gives = { λ e n. n ≡ number_of e };
+
+    fn from(refusal: PlayRefusal) -> u8 {
+        match refusal {
+            PlayRefusal::TooLong => 21,
+            PlayRefusal::Malformed(_) => 20,
+            PlayRefusal::ShortOut => 22,
+        }
+    }
 }
 
 /// Makes the calls of a text one after another, and answers how many bytes of the output were written. A text that is too
@@ -34,13 +57,9 @@ pub fn play<F: Clock, R: Clock>(
     out: &mut [u8],
 ) -> Result<usize, PlayRefusal>
     ensures room { IfOk result (λ n. n ≤ length out.old) }
-    ensures played { Sound F.Clock.means R.Clock.means c.old → Sound F.Clock.means R.Clock.means c.new × Played (history c.old) text.now out.old result out.new (history c.new) }
+    ensures played { Played (history c.old) text.now out.old result out.new (history c.new) }
 {
-    let lines = match check_text(text) {
-        Ok(lines) => lines,
-        Err(Fault::TooLong) => return Err(PlayRefusal::TooLong),
-        Err(Fault::Malformed(line)) => return Err(PlayRefusal::Malformed(line)),
-    };
+    let lines = check_text(text)?;
     if out.len() < LINE_ROOM * lines as usize {
         return Err(PlayRefusal::ShortOut);
     }
@@ -68,36 +87,12 @@ fn play_line<F: Clock, R: Clock>(
 ) -> usize
     requires { at + 32 ≤ length out.old }
     ensures room { result ≤ at + 32 }
-    ensures played { Sound F.Clock.means R.Clock.means c.old → Sound F.Clock.means R.Clock.means c.new × LinePlayed (history c.old) k line out.old at out.new result (history c.new) }
+    ensures played { LinePlayed (history c.old) k line out.old at out.new result (history c.new) }
 {
     match answer(c, line) {
-        Some(report) => write_report(out, at, k, report),
-        None => at,
-    }
-}
-
-// Writes the report of line k from `at` on; answers the place behind it.
-fn write_report(out: &mut [u8], at: usize, k: u16, report: Report) -> usize
-    requires { at + 32 ≤ length out.old }
-    ensures wrote { Wrote out.old at (report_bytes k (Some report)) out.new result }
-    ensures room { result ≤ at + 32 }
-{
-    match report {
-        Report::Refused(refusal) => put_refused(out, at, k, refusal.number()),
-        Report::Ordered(order) => put_order(out, at, k, order),
-    }
-}
-
-impl PlayRefusal {
-    /// The number of the refusal.
-    pub fn number(self) -> u8
-        ensures { result ≡ number_of self }
-    {
-        match self {
-            PlayRefusal::TooLong => 21,
-            PlayRefusal::Malformed(_) => 20,
-            PlayRefusal::ShortOut => 22,
-        }
+        Ok(None) => at,
+        Ok(Some(order)) => put_order(out, at, k, order),
+        Err(refusal) => put_refused(out, at, k, u8::from(refusal)),
     }
 }
 
@@ -122,7 +117,7 @@ fn put_refusal(out: &mut [u8], refusal: PlayRefusal) -> usize
     requires { 32 ≤ length out.old }
     ensures { Wrote out.old 0 (refusal_bytes refusal) out.new result }
 {
-    let number = refusal.number();
+    let number = u8::from(refusal);
     match refusal {
         PlayRefusal::Malformed(line) => put_refused(out, 0, line, number),
         PlayRefusal::TooLong | PlayRefusal::ShortOut => put_refused_text(out, 0, number),

@@ -1,10 +1,10 @@
 use Rattle.std.proofs.Common.{rules}
-use Rattle.correlator.specs.State.{history}
+use Rattle.correlator.specs.Told.{history}
 use Rattle.play.proofs.Playing.{begin, done_all, no_more, none_left, one_more, readable}
 use Rattle.play.proofs.text.play.Goals as goal
 
 pub loop-k-init : goal.loop-k-init
-loop-k-init g c = begin (history c.args.c.now) c.args.out.now c.in-Ok.ensures c.new-reader.ensures
+loop-k-init g c = begin (history c.args.c.now) c.args.out.now c.in_ok-lines.ensures c.new-reader.ensures
 
 pub loop-k-preserved : goal.loop-k-preserved
 loop-k-preserved g c = one_more c.in-Some-read_line.call c.loop-k.invariant c.in-Some.ensures c.in-Some-read_line.ensures c.play_line-at.ensures.room c.play_line-at.ensures.played
