@@ -74,52 +74,22 @@ const UNANSWERED: Answer = Answer {
 // The calls that tell a job, and then the questions.
 fn calls(told: &[Request; TOLD]) -> [Request; CALLS] {
     let mut all = [Request::Close; CALLS];
-    for k in 0..TOLD {
-        all[k] = told[k];
-    }
-    for k in 0..ASKED {
-        all[TOLD + k] = QUESTIONS[k];
-    }
+    all[..TOLD].copy_from_slice(told);
+    all[TOLD..].copy_from_slice(&QUESTIONS);
     all
 }
 
-fn same_value(a: Value, b: Value) -> bool {
-    match (a, b) {
-        (Value::Done, Value::Done) => true,
-        (Value::Placed(p), Value::Placed(q)) => p == q,
-        (Value::Ordered(o), Value::Ordered(p)) => o == p,
-        _ => false,
-    }
-}
-
-fn same(a: Answer, b: Answer) -> bool {
-    let results = match (a.result, b.result) {
-        (Ok(v), Ok(w)) => same_value(v, w),
-        (Err(e), Err(f)) => e.number() == f.number(),
-        _ => false,
-    };
-    results && a.row.counts == b.row.counts
-}
-
 fn refused(refusal: Refusal) -> Answer {
-    Answer {
-        result: Err(refusal),
-        row: NO_ROW,
-    }
+    Answer::from(Err(refusal))
 }
 
 fn ordered(order: CausalOrder) -> Answer {
-    Answer {
-        result: Ok(Value::Ordered(order)),
-        row: NO_ROW,
-    }
+    Answer::from(Ok(Value::Ordered(order)))
 }
 
-fn stamped(a: u16, b: u16, c: u16) -> Answer {
+fn stamped(counts: [u16; 3]) -> Answer {
     let mut row = NO_ROW;
-    row.counts[0] = a;
-    row.counts[1] = b;
-    row.counts[2] = c;
+    row.counts[..3].copy_from_slice(&counts);
     Answer {
         result: Ok(Value::Done),
         row,
@@ -135,10 +105,10 @@ fn wanted() -> [Answer; ASKED] {
         ordered(CausalOrder::Before),
         ordered(CausalOrder::After),
         refused(Refusal::NoEvent),
-        stamped(2, 1, 2),
-        stamped(2, 2, 3),
-        stamped(0, 2, 3),
-        stamped(2, 1, 4),
+        stamped([2, 1, 2]),
+        stamped([2, 2, 3]),
+        stamped([0, 2, 3]),
+        stamped([2, 1, 4]),
         refused(Refusal::BadSelector),
     ]
 }
@@ -151,14 +121,12 @@ fn differing<F: Clock + Drop, R: Clock + Drop, G: Clock + Drop, S: Clock + Drop>
     let mut answers = [UNANSWERED; CALLS];
     let mut others = [UNANSWERED; CALLS];
     let _ = run_both::<F, R, G, S>(first, second, &mut answers, &mut others);
-    let wanted = wanted();
-    let mut count = 0usize;
-    for k in 0..ASKED {
-        if !same(answers[TOLD + k], wanted[k]) || !same(others[TOLD + k], wanted[k]) {
-            count = count.saturating_add(1);
-        }
-    }
-    count
+    answers[TOLD..]
+        .iter()
+        .zip(&others[TOLD..])
+        .zip(&wanted())
+        .filter(|((a, b), wanted)| a != wanted || b != wanted)
+        .count()
 }
 
 // The same for one pair of clocks against each pair.

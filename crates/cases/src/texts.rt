@@ -1,21 +1,24 @@
 //! Job texts with what `correlate` writes for them, on all four pairs of clocks, and the limits of a text.
 
+use clock::Clock;
 use job_text::{MAX_BYTES, MAX_LINES};
 use link_clock::LinkClock;
 use play::{MAX_OUTPUT, correlate};
 use row_clock::RowClock;
 
-// Whether each pair of clocks writes what is expected.
-fn writes(text: &[u8], expected: &[u8]) -> bool {
+// Whether a pair of clocks writes what is expected.
+fn writes_on<F: Clock + Drop, R: Clock + Drop>(text: &[u8], expected: &[u8]) -> bool {
     let mut out = [0u8; MAX_OUTPUT];
-    let rows = correlate::<RowClock, RowClock>(text, &mut out);
-    let all = &out[0..rows] == expected;
-    let links = correlate::<LinkClock, LinkClock>(text, &mut out);
-    let all = &out[0..links] == expected && all;
-    let mixed = correlate::<RowClock, LinkClock>(text, &mut out);
-    let all = &out[0..mixed] == expected && all;
-    let turned = correlate::<LinkClock, RowClock>(text, &mut out);
-    &out[0..turned] == expected && all
+    let end = correlate::<F, R>(text, &mut out);
+    &out[..end] == expected
+}
+
+// Whether each pair of clocks does.
+fn writes(text: &[u8], expected: &[u8]) -> bool {
+    writes_on::<RowClock, RowClock>(text, expected)
+        && writes_on::<LinkClock, LinkClock>(text, expected)
+        && writes_on::<RowClock, LinkClock>(text, expected)
+        && writes_on::<LinkClock, RowClock>(text, expected)
 }
 
 const CASES: [(&[u8], &[u8]); 30] = [
@@ -74,8 +77,8 @@ const CASES: [(&[u8], &[u8]); 30] = [
 
 #[test]
 fn texts(rt: HostRuntime) {
-    for case in &CASES {
-        assert!(rt; writes(case.0, case.1));
+    for (text, expected) in &CASES {
+        assert!(rt; writes(text, expected));
     }
 }
 

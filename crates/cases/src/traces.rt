@@ -8,180 +8,204 @@ use link_clock::LinkClock;
 use row_clock::RowClock;
 use std::process::Abort;
 
-// 0 if a call was accepted, else the number of its refusal.
-fn told<T: Drop>(r: Result<T, Refusal>) -> u8 {
-    match r {
-        Ok(_) => 0,
-        Err(refusal) => refusal.number(),
+// An event, and what it is answered when it is told: that it is accepted, or why not.
+type Step = (Event, Result<(), Refusal>);
+
+fn tell<F: Clock, R: Clock>(c: &mut Correlator<F, R>, event: Event) -> Result<Place, Refusal> {
+    match event {
+        Event::Local(a) => c.local(a),
+        Event::Send(a, m) => c.send(a, m),
+        Event::Receive(a, m) => c.receive(a, m),
+        Event::Meet(a, b) => c.meet(a, b),
     }
 }
 
-fn event<F: Clock, R: Clock>(c: &mut Correlator<F, R>, e: Event) -> u8 {
-    match e {
-        Event::Local(a) => told(c.local(a)),
-        Event::Send(a, m) => told(c.send(a, m)),
-        Event::Receive(a, m) => told(c.receive(a, m)),
-        Event::Meet(a, b) => told(c.meet(a, b)),
-    }
+// Whether each event is answered as it should.
+fn events<F: Clock, R: Clock>(c: &mut Correlator<F, R>, steps: &[Step]) -> bool {
+    steps
+        .iter()
+        .all(|(event, told)| tell(c, *event).map(|_| ()) == *told)
 }
 
-// Each event is answered by its number.
-fn events<F: Clock, R: Clock>(c: &mut Correlator<F, R>, steps: &[(Event, u8)]) -> bool {
-    let mut all = true;
-    for s in steps {
-        all = event(c, s.0) == s.1 && all;
-    }
-    all
+// Whether each event is accepted.
+fn accepts<F: Clock, R: Clock>(c: &mut Correlator<F, R>, trace: &[Event]) -> bool {
+    trace.iter().all(|event| tell(c, *event).is_ok())
 }
 
 fn fill<F: Clock, R: Clock>(c: &mut Correlator<F, R>) -> bool {
-    let mut all = true;
-    for e in 1..512u16 {
-        all = event(c, Event::Local(e % 16 + 1)) == 0 && all;
-    }
-    all
+    (1..512u16).all(|e| c.local(e % 16 + 1).is_ok())
 }
 
-const FULL: [(Event, u8); 8] = [
-    (Event::Local(1), 6),
-    (Event::Local(17), 5),
-    (Event::Send(1, 0), 11),
-    (Event::Send(1, 65535), 7),
-    (Event::Receive(2, 7), 8),
-    (Event::Receive(1, 65535), 10),
-    (Event::Receive(2, 65535), 6),
-    (Event::Meet(3, 3), 10),
+const FULL: [Step; 8] = [
+    (Event::Local(1), Err(Refusal::Full)),
+    (Event::Local(17), Err(Refusal::NoNode)),
+    (Event::Send(1, 0), Err(Refusal::NoMessage)),
+    (Event::Send(1, 65535), Err(Refusal::SentBefore)),
+    (Event::Receive(2, 7), Err(Refusal::NotSent)),
+    (Event::Receive(1, 65535), Err(Refusal::SameNode)),
+    (Event::Receive(2, 65535), Err(Refusal::Full)),
+    (Event::Meet(3, 3), Err(Refusal::SameNode)),
 ];
 
 // 16 nodes and 512 events pass; at 512 events the other refusals still come first.
 fn limits<F: Clock + Drop, R: Clock + Drop>(rt: &impl Abort) {
     let mut c = Correlator::<F, R>::new();
-    assert!(rt; events(&mut c, &[(Event::Local(1), 1)]) && told(c.close()) == 1);
-    assert!(rt; told(c.start(17)) == 2 && told(c.start(0)) == 2);
-    assert!(rt; told(c.start(16)) == 0 && events(&mut c, &[(Event::Send(1, 65535), 0)]));
+    assert!(rt;
+        events(&mut c, &[(Event::Local(1), Err(Refusal::Idle))]) && c.close() == Err(Refusal::Idle)
+    );
+    assert!(rt; c.start(17) == Err(Refusal::NodeCount) && c.start(0) == Err(Refusal::NodeCount));
+    assert!(rt; c.start(16) == Ok(()) && events(&mut c, &[(Event::Send(1, 65535), Ok(()))]));
     assert!(rt; fill(&mut c) && events(&mut c, &FULL));
 }
 
-const MESSAGE: [(Event, u8); 4] = [
-    (Event::Send(1, 5), 0),
-    (Event::Receive(2, 5), 0),
-    (Event::Receive(2, 5), 9),
-    (Event::Receive(1, 5), 9),
+const MESSAGE: [Step; 4] = [
+    (Event::Send(1, 5), Ok(())),
+    (Event::Receive(2, 5), Ok(())),
+    (Event::Receive(2, 5), Err(Refusal::ReceivedBefore)),
+    (Event::Receive(1, 5), Err(Refusal::ReceivedBefore)),
 ];
 
-const ANEW: [(Event, u8); 3] = [
-    (Event::Receive(1, 5), 8),
-    (Event::Send(1, 5), 0),
-    (Event::Local(2), 5),
+const ANEW: [Step; 3] = [
+    (Event::Receive(1, 5), Err(Refusal::NotSent)),
+    (Event::Send(1, 5), Ok(())),
+    (Event::Local(2), Err(Refusal::NoNode)),
 ];
 
 // A closed trace takes no events, and a new start leaves nothing of the old trace.
 fn abandoned<F: Clock + Drop, R: Clock + Drop>(rt: &impl Abort) {
     let mut c = Correlator::<F, R>::new();
-    assert!(rt; told(c.start(2)) == 0 && events(&mut c, &MESSAGE));
-    assert!(rt; told(c.close()) == 0 && told(c.close()) == 3);
-    assert!(rt; events(&mut c, &[(Event::Local(1), 3)]) && told(c.start(1)) == 0);
-    assert!(rt; ordered(&c, 1, 1, 1, 1) == 16 && events(&mut c, &ANEW));
-    assert!(rt; ordered(&c, 1, 1, 1, 1) == b's' && told(c.close()) == 0);
+    assert!(rt; c.start(2) == Ok(()) && events(&mut c, &MESSAGE));
+    assert!(rt; c.close() == Ok(()) && c.close() == Err(Refusal::Closed));
+    assert!(rt; events(&mut c, &[(Event::Local(1), Err(Refusal::Closed))]) && c.start(1) == Ok(()));
+    assert!(rt;
+        c.order(place(1, 1), place(1, 1)) == Err(Refusal::NoEvent) && events(&mut c, &ANEW)
+    );
+    assert!(rt; c.order(place(1, 1), place(1, 1)) == Ok(CausalOrder::Same) && c.close() == Ok(()));
 }
 
 // The worked trace in three orders of arrival.
-const ARRIVALS: [[(Event, u8); 8]; 3] = [
+const ARRIVALS: [[Event; 8]; 3] = [
     [
-        (Event::Local(1), 0),
-        (Event::Send(1, 7), 0),
-        (Event::Send(2, 8), 0),
-        (Event::Receive(3, 7), 0),
-        (Event::Receive(3, 8), 0),
-        (Event::Meet(2, 3), 0),
-        (Event::Local(1), 0),
-        (Event::Local(3), 0),
+        Event::Local(1),
+        Event::Send(1, 7),
+        Event::Send(2, 8),
+        Event::Receive(3, 7),
+        Event::Receive(3, 8),
+        Event::Meet(2, 3),
+        Event::Local(1),
+        Event::Local(3),
     ],
     [
-        (Event::Send(2, 8), 0),
-        (Event::Local(1), 0),
-        (Event::Send(1, 7), 0),
-        (Event::Local(1), 0),
-        (Event::Receive(3, 7), 0),
-        (Event::Receive(3, 8), 0),
-        (Event::Meet(3, 2), 0),
-        (Event::Local(3), 0),
+        Event::Send(2, 8),
+        Event::Local(1),
+        Event::Send(1, 7),
+        Event::Local(1),
+        Event::Receive(3, 7),
+        Event::Receive(3, 8),
+        Event::Meet(3, 2),
+        Event::Local(3),
     ],
     [
-        (Event::Local(1), 0),
-        (Event::Send(1, 7), 0),
-        (Event::Receive(3, 7), 0),
-        (Event::Send(2, 8), 0),
-        (Event::Receive(3, 8), 0),
-        (Event::Meet(2, 3), 0),
-        (Event::Local(3), 0),
-        (Event::Local(1), 0),
+        Event::Local(1),
+        Event::Send(1, 7),
+        Event::Receive(3, 7),
+        Event::Send(2, 8),
+        Event::Receive(3, 8),
+        Event::Meet(2, 3),
+        Event::Local(3),
+        Event::Local(1),
     ],
 ];
 
-// How i.k stands to j.l, or the number of the refusal.
-fn ordered<F: Clock, R: Clock>(c: &Correlator<F, R>, i: u16, k: u16, j: u16, l: u16) -> u8 {
-    match c.order(Place { node: i, index: k }, Place { node: j, index: l }) {
-        Ok(CausalOrder::Before) => b'b',
-        Ok(CausalOrder::After) => b'a',
-        Ok(CausalOrder::Same) => b's',
-        Ok(CausalOrder::Concurrent) => b'c',
-        Err(refusal) => refusal.number(),
-    }
+fn place(node: u16, index: u16) -> Place {
+    Place { node, index }
 }
 
-// Whether two correlators order i.k and every other place alike.
-fn alike<F: Clock, R: Clock>(c: &Correlator<F, R>, d: &Correlator<F, R>, i: u16, k: u16) -> bool {
-    let mut all = true;
-    for j in 0..5u16 {
-        for l in 0..6u16 {
-            all = ordered(c, i, k, j, l) == ordered(d, i, k, j, l) && all;
-        }
-    }
-    all
+// Whether two correlators order p and every other place alike.
+fn alike<F: Clock, R: Clock>(c: &Correlator<F, R>, d: &Correlator<F, R>, p: Place) -> bool {
+    (0..5u16).all(|j| { (0..6u16).all(|l| c.order(p, place(j, l)) == d.order(p, place(j, l))) })
 }
 
 fn arrivals<F: Clock + Drop, R: Clock + Drop>(rt: &impl Abort) {
     let mut first = Correlator::<F, R>::new();
     let mut other = Correlator::<F, R>::new();
-    assert!(rt; told(first.start(3)) == 0 && events(&mut first, &ARRIVALS[0]));
-    assert!(rt; ordered(&first, 1, 3, 3, 4) == b'c' && ordered(&first, 2, 2, 3, 3) == b's');
-    assert!(rt; ordered(&first, 1, 2, 3, 4) == b'b' && ordered(&first, 3, 2, 2, 1) == b'a');
+    assert!(rt; first.start(3) == Ok(()) && accepts(&mut first, &ARRIVALS[0]));
+    assert!(rt;
+        first.order(place(1, 3), place(3, 4)) == Ok(CausalOrder::Concurrent)
+            && first.order(place(2, 2), place(3, 3)) == Ok(CausalOrder::Same)
+    );
+    assert!(rt;
+        first.order(place(1, 2), place(3, 4)) == Ok(CausalOrder::Before)
+            && first.order(place(3, 2), place(2, 1)) == Ok(CausalOrder::After)
+    );
     for arrival in &ARRIVALS {
-        assert!(rt; told(other.start(3)) == 0 && events(&mut other, arrival));
+        assert!(rt; other.start(3) == Ok(()) && accepts(&mut other, arrival));
         for i in 0..5u16 {
             for k in 0..6u16 {
-                assert!(rt; alike(&first, &other, i, k));
+                assert!(rt; alike(&first, &other, place(i, k)));
             }
         }
     }
 }
 
-// Whether a stamp writes these numbers into a row of sevens, and is answered by this number.
-fn stamps_to<F: Clock, R: Clock>(
+// What a stamp is answered, and what it leaves of a row of sevens.
+fn stamped<F: Clock, R: Clock>(
     c: &Correlator<F, R>,
-    node: u16,
-    index: u16,
+    p: Place,
     d: u16,
-    row: [u16; 4],
-    number: u8,
-) -> bool {
-    let mut written = [7u16; 4];
-    told(c.stamp(Place { node, index }, d, &mut written)) == number && written == row
+) -> (Result<(), Refusal>, [u16; 4]) {
+    let mut row = [7u16; 4];
+    (c.stamp(p, d, &mut row), row)
 }
 
 fn stamps<F: Clock + Drop, R: Clock + Drop>(rt: &impl Abort) {
     let mut c = Correlator::<F, R>::new();
-    assert!(rt; told(c.start(3)) == 0 && events(&mut c, &ARRIVALS[0]));
-    assert!(rt; stamps_to(&c, 3, 2, 1, [2, 1, 2, 7], 0) && stamps_to(&c, 2, 2, 1, [2, 2, 3, 7], 0));
+    assert!(rt; c.start(3) == Ok(()) && accepts(&mut c, &ARRIVALS[0]));
     assert!(rt;
-        stamps_to(&c, 2, 1, 2, [7; 4], 4)
-            && stamps_to(&c, 1, 4, 1, [7; 4], 16)
-            && stamps_to(&c, 1, 1, 3, [7; 4], 19)
+        stamped(&c, place(3, 2), 1) == (Ok(()), [2, 1, 2, 7])
+            && stamped(&c, place(2, 2), 1) == (Ok(()), [2, 2, 3, 7])
     );
-    assert!(rt; told(c.stamp(Place { node: 1, index: 1 }, 1, &mut [7u16; 2])) == 18);
-    assert!(rt; told(c.close()) == 0);
-    assert!(rt; stamps_to(&c, 2, 1, 2, [0, 2, 3, 7], 0) && stamps_to(&c, 1, 2, 2, [2, 1, 4, 7], 0));
+    assert!(rt;
+        stamped(&c, place(2, 1), 2) == (Err(Refusal::Open), [7; 4])
+            && stamped(&c, place(1, 4), 1) == (Err(Refusal::NoEvent), [7; 4])
+            && stamped(&c, place(1, 1), 3) == (Err(Refusal::BadSelector), [7; 4])
+    );
+    assert!(rt; c.stamp(Place { node: 1, index: 1 }, 1, &mut [7u16; 2]) == Err(Refusal::ShortRow));
+    assert!(rt; c.close() == Ok(()));
+    assert!(rt;
+        stamped(&c, place(2, 1), 2) == (Ok(()), [0, 2, 3, 7])
+            && stamped(&c, place(1, 2), 2) == (Ok(()), [2, 1, 4, 7])
+    );
+}
+
+// Each refusal and its number.
+const NUMBERS: [(Refusal, u8); 19] = [
+    (Refusal::Idle, 1),
+    (Refusal::NodeCount, 2),
+    (Refusal::Closed, 3),
+    (Refusal::Open, 4),
+    (Refusal::NoNode, 5),
+    (Refusal::Full, 6),
+    (Refusal::SentBefore, 7),
+    (Refusal::NotSent, 8),
+    (Refusal::ReceivedBefore, 9),
+    (Refusal::SameNode, 10),
+    (Refusal::NoMessage, 11),
+    (Refusal::BadName, 12),
+    (Refusal::NameTaken, 13),
+    (Refusal::OperationsFull, 14),
+    (Refusal::PlaceCount, 15),
+    (Refusal::NoEvent, 16),
+    (Refusal::NoOperation, 17),
+    (Refusal::ShortRow, 18),
+    (Refusal::BadSelector, 19),
+];
+
+#[test]
+fn numbers(rt: HostRuntime) {
+    for (refusal, number) in &NUMBERS {
+        assert!(rt; u8::from(*refusal) == *number);
+    }
 }
 
 #[test]
