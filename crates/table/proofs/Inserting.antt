@@ -1,84 +1,65 @@
--- An insertion that shifts what ranks above by one place, from the end.
-use Rattle.std.proofs.Common.{◌≡◌, ℕ, zero, suc, ◌+◌, ◌-◌, ◌<◌, ◌≤◌, Bool, true, false, cond, ◌≢◌, ◌⊎◌, List, [], ◌∷◌, length, get_or, take, drop, set, sym, refl, ap, ◌∙◌, subst, inl, inr, arith}
+-- An insertion: the record is put into the free place at the end, and slid down to its own.
+use Rattle.std.proofs.Common.{◌≡◌, ℕ, zero, suc, ◌+◌, ◌-◌, ◌<◌, ◌≤◌, cond, ◌⊎◌, List, [], ◌∷◌, ◌++◌, length, get_or, take, drop, set, MatchResult, IsErr, Ok, Err, Result, sym, refl, ap, ◌∙◌, subst, ap₂, inl, inr, append-nil, arith, length-append, length-drop}
+use borrow.Rule.Slice.PartMut.{mid_of, put_mid}
+use Rattle.std.specs.Cmp.{IsTotalOrder}
+use Rattle.std.specs.declared.cmp.Ordering.{Ordering}
 use Rattle.std.specs.List.{insert}
-use Rattle.std.proofs.lemmas.List.{get_or_read, get_or-set_same, get_or-set_other, get_or-take, length-take-le, length-set, same_lists, drop-set-lt}
+use Rattle.std.specs.Ordering.{is_lt}
+use Rattle.std.proofs.lemmas.Bool.{cases_order}
+use Rattle.std.proofs.lemmas.List.{take_more_set, take_all, drop_all, take-append-le, drop-append-le, length-take-le, length-set}
 use Rattle.std.proofs.lemmas.List.Edits.{length-insert, get_or-insert_below, get_or-insert_at, get_or-insert_above}
-use Rattle.std.proofs.lemmas.Bool.{cases_eq, cases_order, cases_Bool}
-use Rattle.table.specs.Tables.{Rising, placed}
-use Rattle.table.proofs.Searching.{far}
+use Rattle.std.proofs.Math.Seq.{drop-append_seam, take-append_seam}
+use Rattle.table.specs.Tables.{Rising, Lacks, Found, Gap, placed}
+use Rattle.table.proofs.Searching.{turned, far}
 
-module _ {X K : Type 0} (before : K → K → Bool) (asymmetric : (x y : K) → before x y ≡ true → before y x ≡ false) (transitive : (x y z : K) → before x y ≡ true → before y z ≡ true → before x z ≡ true) (connected : (x y : K) → before x y ≡ false → before y x ≡ false → x ≡ y) (key : X → K) where
-  -- the places from `at` to `len` stand one higher than in `old`, and rank above k
-  abbrev pub Shifted : K → List X → List X → ℕ → ℕ → Type 0
-  Shifted k old cur len at =
-      (at ≤ len)
-      × (length cur ≡ length old)
-      × ((j : ℕ) (d : X) → j < at → get_or cur j d ≡ get_or old j d)
-      × ((j : ℕ) (d : X) → at ≤ j → j < len → get_or cur (j + 1) d ≡ get_or old j d)
-      × ((j : ℕ) (d : X) → at ≤ j → j < len → before k (key (get_or old j d)) ≡ true)
-      × (drop (len + 1) cur ≡ drop (len + 1) old)
+turned_one : {X : Type 0} (ds : List X) (x : X) → drop (length (ds ++ x ∷ []) - 1) (ds ++ x ∷ []) ++ take (length (ds ++ x ∷ []) - 1) (ds ++ x ∷ []) ≡ x ∷ ds
+turned_one ds x =
+    let n : length (ds ++ x ∷ []) - 1 ≡ length ds = omega (arith, length-append ds (x ∷ [])) in
+    rw n (ap₂ (λ xs ys. xs ++ ys) (drop-append_seam ds (x ∷ [])) (take-append_seam ds (x ∷ [])))
 
-  pub shifted_none : (k : K) (old : List X) (len : ℕ) → Shifted k old old len len
-  shifted_none k old len = (omega arith, refl, λ j d h. refl, λ j d h w. absurd (omega arith), λ j d h w. absurd (omega arith), refl)
+-- a list t with x in its last place, of which the part from `at` on is turned by one
+module _ {X : Type 0} (t : List X) (x : X) where
+  abbrev pub filled : List X
+  filled = set t (length t - 1) x
 
-  module _ (k : K) (old cur : List X) (len at : ℕ) (room : len < length old) (held : Shifted k old cur len at) where
-    pub shifted_more : (x : X) → 0 < at → x ≡ get_or cur (at - 1) x → before k (key x) ≡ true → Shifted k old (set cur at x) len (at - 1)
-    shifted_more x some read above =
-        let within : at < length cur = omega (arith, held.0, held.1) in
-        let was : (d : X) → x ≡ get_or old (at - 1) d = λ d. get_or_read cur (at - 1) x (omega arith) read d ∙ held.2 (at - 1) d (omega arith) in (
-          omega (arith, held.0),
-          length-set cur at x ∙ held.1,
-          λ j d h. let ne : j ≢ at = omega arith in get_or-set_other cur at j x d ne ∙ held.2 j d (omega arith),
-          λ j d h w. elim (cases_eq (j + 1) at) [
-            | inl e ↦ let z : j ≡ at - 1 = omega arith in rw e (get_or-set_same cur at x d within ∙ (was d ∙ ap (λ i. get_or old i d) (sym z)))
-            | inr ne ↦ get_or-set_other cur at (j + 1) x d ne ∙ held.3 j d (omega arith) w
-          ],
-          λ j d h w. elim (cases_eq j (at - 1)) [
-            | inl e ↦ rw e (subst (λ y. before k (key y) ≡ true) (was d) above)
-            | inr ne ↦ held.4 j d (omega arith) w
-          ],
-          drop-set-lt (len + 1) cur at x (omega (arith, held.0)) ∙ held.5,
-        )
+  abbrev pub part : ℕ → List X
+  part at = mid_of at (length filled - at) filled
 
-    pub shifted_all : (x : X) → take (len + 1) (set cur at x) ≡ insert (take len old) at x
-    shifted_all x =
-        let low : at ≤ len = held.0 in
-        let same : length cur ≡ length old = held.1 in
-        let front : length (take len old) ≡ len = length-take-le len old (omega arith) in
-        let le : at ≤ length (take len old) = omega arith in
-        let long : length (take (len + 1) (set cur at x)) ≡ len + 1 = length-take-le (len + 1) (set cur at x) (rw length-set (omega arith)) in
-        same_lists _ _ (omega (arith, length-insert (take len old) at x le)) (λ j d h.
-        let below : j < len + 1 = omega arith in
-        get_or-take (len + 1) (set cur at x) j d below ∙ elim (cases_order j at) [
-          | inl e ↦ rw e (get_or-set_same cur at x d (omega arith) ∙ sym (get_or-insert_at (take len old) at x d le))
-          | inr w ↦ elim w [
-            | inl lt ↦ let ne : j ≢ at = omega arith in get_or-set_other cur at j x d ne ∙ (held.2 j d lt ∙ (sym (get_or-take len old j d (omega arith)) ∙ sym (get_or-insert_below (take len old) at x d j lt le)))
-            | inr gt ↦
-                let ne : j ≢ at = omega arith in
-                let back : j ≡ (j - 1) + 1 = omega arith in
-                get_or-set_other cur at j x d ne ∙ (ap (λ i. get_or cur i d) back ∙ (held.3 (j - 1) d (omega arith) (omega arith) ∙ (sym (get_or-take len old (j - 1) d (omega arith)) ∙ (sym (get_or-insert_above (take len old) at x d (j - 1) (omega arith) le) ∙ ap (λ i. get_or (insert (take len old) at x) i d) (sym back)))))
-          ]
-        ])
+module _ {X : Type 0} (t : List X) (x : X) (room : 0 < length t) (at : ℕ) (low : at ≤ length t - 1) where
+  abbrev front : List X
+  front = take (length t - 1) t
 
-    pub shifted_rest : (x : X) → drop (len + 1) (set cur at x) ≡ drop (len + 1) old
-    shifted_rest x = drop-set-lt (len + 1) cur at x (omega (arith, held.0)) ∙ held.5
+  filled-is : (filled t x) ≡ front ++ x ∷ []
+  filled-is =
+      sym (take_all (length t - 1 + 1) (filled t x) (omega (arith, length-set t (length t - 1) x))) ∙ take_more_set t (length t - 1) x (omega arith)
 
-  -- x stands at i between what ranks below it and what ranks above it
-  abbrev pub Between : X → List X → ℕ → Type 0
-  Between x xs i = (i ≤ length xs) × ((j : ℕ) (d : X) → j < i → before (key (get_or xs j d)) (key x) ≡ true) × ((j : ℕ) (d : X) → i ≤ j → j < length xs → before (key x) (key (get_or xs j d)) ≡ true)
+  pub slid : (turned-part : List X) → turned-part ≡ drop (length (part t x at) - 1) (part t x at) ++ take (length (part t x at) - 1) (part t x at) → put_mid at (length (filled t x) - at) (filled t x) turned-part ≡ insert front at x
+  slid ys e =
+      let within : at ≤ length front = omega (arith, length-take-le (length t - 1) t (omega arith)) in
+      let all = length-drop at (filled t x) in
+      let part-is : (part t x at) ≡ drop at front ++ x ∷ [] = take_all (length (filled t x) - at) (drop at (filled t x)) (omega arith) ∙ ap (drop at) filled-is ∙ drop-append-le at front (x ∷ []) within in
+      let ys-is : ys ≡ x ∷ drop at front = e ∙ ap (λ (l : List X). drop (length l - 1) l ++ take (length l - 1) l) part-is ∙ turned_one (drop at front) x in
+      let none : drop (length (filled t x) - at) (drop at (filled t x)) ≡ [] = drop_all (length (filled t x) - at) (drop at (filled t x)) (omega arith) in
+      let head : take at (filled t x) ≡ take at front = ap (take at) filled-is ∙ take-append-le at front (x ∷ []) within in
+      ap₂ (λ (xs zs : List X). xs ++ zs) head (ap₂ (λ (xs zs : List X). xs ++ zs) ys-is none ∙ append-nil (x ∷ drop at front))
 
-  pub placed-is : (x : X) (xs : List X) (i : ℕ) → Between x xs i → insert xs i x ≡ placed before key x xs
-  placed-is x [] zero h = refl
-  placed-is x [] (suc i) h = absurd (omega (arith, h.0))
-  placed-is x (y ∷ ys) zero h = sym (ap (λ b. cond b (x ∷ y ∷ ys) (y ∷ placed before key x ys)) (h.2 0 x (omega arith) (omega arith)))
-  placed-is x (y ∷ ys) (suc i) h =
-      ap (λ l. y ∷ l) (placed-is x ys i (omega (arith, h.0), λ j d w. h.1 (suc j) d (omega arith), λ j d w v. h.2 (suc j) d (omega arith) (omega arith)))
-      ∙ sym (ap (λ b. cond b (x ∷ y ∷ ys) (y ∷ placed before key x ys)) (asymmetric _ _ (h.1 0 x (omega arith))))
+module _ {X K : Type 0} (cmp : K → K → Ordering) (total : IsTotalOrder cmp) (key : X → K) where
+  -- x's key is before the keys from its gap on
+  above : (x : X) (xs : List X) (i j : ℕ) (d : X) → Gap cmp key (key x) xs i → i ≤ j → j < length xs → cmp (key x) (key (get_or xs j d)) ≡ Ordering.Less
+  above x xs i j d gap low h = turned cmp total key _ _ Ordering.Greater (gap.2 j d low h)
 
-  pub rises_inserted : (x : X) (xs : List X) (i : ℕ) → Rising before key xs → Between x xs i → Rising before key (insert xs i x)
-  rises_inserted x xs i up h a d bl =
+  pub placed-is : (x : X) (xs : List X) (i : ℕ) → Gap cmp key (key x) xs i → insert xs i x ≡ placed cmp key x xs
+  placed-is x [] zero gap = refl
+  placed-is x [] (suc i) gap = absurd (omega (arith, gap.0))
+  placed-is x (y ∷ ys) zero gap = sym (ap (λ (o : Ordering). cond (is_lt o) (x ∷ y ∷ ys) (y ∷ placed cmp key x ys)) (above x (y ∷ ys) 0 0 x gap (omega arith) (omega arith)))
+  placed-is x (y ∷ ys) (suc i) gap =
+      ap (λ l. y ∷ l) (placed-is x ys i (omega (arith, gap.0), λ j d w. gap.1 (suc j) d (omega arith), λ j d w v. gap.2 (suc j) d (omega arith) (omega arith)))
+      ∙ sym (ap (λ (o : Ordering). cond (is_lt o) (x ∷ y ∷ ys) (y ∷ placed cmp key x ys)) (turned cmp total key _ _ Ordering.Less (gap.1 0 x (omega arith))))
+
+  pub rises_inserted : (x : X) (xs : List X) (i : ℕ) → Rising cmp key xs → Gap cmp key (key x) xs i → Rising cmp key (insert xs i x)
+  rises_inserted x xs i up gap a d bl =
       let b : ℕ = a + 1 in
-      let le : i ≤ length xs = h.0 in
+      let le : i ≤ length xs = gap.0 in
       let long : length (insert xs i x) ≡ length xs + 1 = length-insert xs i x le in
       let at : (j : ℕ) → j < length xs + 1 → (j < i) ⊎ ((j ≡ i) ⊎ (i < j)) = λ j w. elim (cases_order j i) [ inl e ↦ inr (inl e) | inr v ↦ elim v [ inl l ↦ inl l | inr r ↦ inr (inr r) ] ] in
       let low : (j : ℕ) → j < i → get_or (insert xs i x) j d ≡ get_or xs j d = λ j w. get_or-insert_below xs i x d j w le in
@@ -86,52 +67,38 @@ module _ {X K : Type 0} (before : K → K → Bool) (asymmetric : (x y : K) → 
       let high : (j : ℕ) → i < j → get_or (insert xs i x) j d ≡ get_or xs (j - 1) d = λ j w.
       let back : j ≡ (j - 1) + 1 = omega arith in
       ap (λ z. get_or (insert xs i x) z d) back ∙ get_or-insert_above xs i x d (j - 1) (omega arith) le in
-      let away : (y z : ℕ) → y < z → z < length xs → before (key (get_or xs y d)) (key (get_or xs z d)) ≡ true = λ y z yz zl. far before transitive key xs up y z d yz zl in
+      let away : (y z : ℕ) → y < z → z < length xs → cmp (key (get_or xs y d)) (key (get_or xs z d)) ≡ Ordering.Less = λ y z yz zl. far cmp total key xs up y z d yz zl in
       elim (at a (omega arith)) [
         | inl al ↦ elim (at b (omega arith)) [
           | inl bl' ↦ rw (low a al, low b bl') (away a b (omega arith) (omega arith))
           | inr bw ↦ elim bw [
-            | inl be ↦ rw (low a al, be, mid) (h.1 a d al)
+            | inl be ↦ rw (low a al, be, mid) (gap.1 a d al)
             | inr bg ↦ absurd (omega arith)
           ]
         ]
         | inr aw ↦ elim aw [
-          | inl ae ↦ let bg : i < b = omega arith in rw (high b bg, ae, mid) (h.2 (i + 1 - 1) d (omega arith) (omega arith))
+          | inl ae ↦ let bg : i < b = omega arith in rw (high b bg, ae, mid) (above x xs i (i + 1 - 1) d gap (omega arith) (omega arith))
           | inr ag ↦ let bg : i < b = omega arith in rw (high a ag, high b bg) (away (a - 1) (b - 1) (omega arith) (omega arith))
         ]
       ]
 
-  -- the whole: what the loop leaves, with x written at the place where it stopped
-  pub record Done (x : X) (old new : List X) (len : ℕ) : Type 0 where
-    pub list : take (len + 1) new ≡ placed before key x (take len old)
-    pub rises : Rising before key (take (len + 1) new)
-    pub rest : drop (len + 1) new ≡ drop (len + 1) old
+  -- a search for the key of a record that is new finds its gap
+  pub not_found : (x : X) (xs : List X) → Lacks key (key x) xs → (k : K) → k ≡ key x → (r : Result ℕ ℕ) → MatchResult r (Found key k xs) (Gap cmp key k xs) → IsErr r
+  not_found x xs fresh k is (Ok i) found = absurd (fresh i x found.0 (found.1 x ∙ is))
+  not_found x xs fresh k is (Err i) gap = refl
 
-  module _ (x : X) (old cur : List X) (len at : ℕ) (room : len < length old) (held : Shifted (key x) old cur len at) (up : Rising before key (take len old)) (fresh : (j : ℕ) (d : X) → j < length (take len old) → key (get_or (take len old) j d) ≡ key x → ⊥) (stop : (d : X) → 0 < at → before (key x) (key (get_or cur (at - 1) d)) ≡ false) where
-    between : Between x (take len old) at
-    between =
-        let front : length (take len old) ≡ len = length-take-le len old (omega arith) in
-        let last : (d : X) → 0 < at → before (key (get_or (take len old) (at - 1) d)) (key x) ≡ true = λ d some.
-        let was : get_or cur (at - 1) d ≡ get_or (take len old) (at - 1) d = held.2 (at - 1) d (omega arith) ∙ sym (get_or-take len old (at - 1) d (omega (arith, held.0))) in
-        let not-above : before (key x) (key (get_or (take len old) (at - 1) d)) ≡ false = subst (λ y. before (key x) (key y) ≡ false) was (stop d some) in
-        elim (cases_Bool (before (key (get_or (take len old) (at - 1) d)) (key x))) [
-          | inl yes' ↦ yes'
-          | inr no' ↦ absurd (fresh (at - 1) d (omega (arith, held.0)) (connected _ _ no' not-above))
-        ] in (
-          omega (arith, held.0),
-          λ j d h.
-              elim (cases_eq j (at - 1)) [
-                | inl e ↦ rw e (last d (omega arith))
-                | inr ne ↦ transitive _ _ _ (far before transitive key (take len old) up j (at - 1) d (omega arith) (omega (arith, held.0))) (last d (omega arith))
-              ],
-          λ j d h w. rw (get_or-take len old j d (omega arith)) (held.4 j d h (omega arith)),
-        )
+  pub gap_at : (x : X) (xs : List X) (k : K) → k ≡ key x → (r : Result ℕ ℕ) → MatchResult r (Found key k xs) (Gap cmp key k xs) → (at : ℕ) → r ≡ Err at → Gap cmp key (key x) xs at
+  gap_at x xs k is r found at e =
+      let gap : Gap cmp key k xs at = subst (λ (s : Result ℕ ℕ). MatchResult s (Found key k xs) (Gap cmp key k xs)) e found in
+      subst (λ (l : K). Gap cmp key l xs at) is gap
 
-    pub done : Done x old (set cur at x) len
-    done =
-        let made : take (len + 1) (set cur at x) ≡ insert (take len old) at x = shifted_all (key x) old cur len at room held x in
-        record {
-          list = made ∙ placed-is x (take len old) at between;
-          rises = subst (λ l. Rising before key l) (sym made) (rises_inserted x (take len old) at up between);
-          rest = shifted_rest (key x) old cur len at room held x;
-        }
+  -- the whole: x slid down from the free place at the end of t to its gap
+  module _ (t : List X) (x : X) (room : 0 < length t) (up : Rising cmp key (take (length t - 1) t)) (at : ℕ) (gap : Gap cmp key (key x) (take (length t - 1) t) at) (ys : List X) (e : ys ≡ drop (length (part t x at) - 1) (part t x at) ++ take (length (part t x at) - 1) (part t x at)) where
+    slid-down : put_mid at (length (filled t x) - at) (filled t x) ys ≡ insert (take (length t - 1) t) at x
+    slid-down = slid t x room at (omega (arith, gap.0, length-take-le (length t - 1) t (omega arith))) ys e
+
+    pub inserted : put_mid at (length (filled t x) - at) (filled t x) ys ≡ placed cmp key x (take (length t - 1) t)
+    inserted = slid-down ∙ placed-is x (take (length t - 1) t) at gap
+
+    pub inserted_rises : Rising cmp key (put_mid at (length (filled t x) - at) (filled t x) ys)
+    inserted_rises = subst (Rising cmp key) (sym slid-down) (rises_inserted x (take (length t - 1) t) at up gap)

@@ -1,7 +1,11 @@
 -- What a search, an insertion and a changed record mean for look-ups.
-use Rattle.std.proofs.Common.{◌≡◌, ℕ, zero, suc, ◌+◌, ◌<◌, ◌≤◌, true, cond, eqb, ltb, List, [], ◌∷◌, length, get_or, take, set, Some, None, sym, refl, ap, ◌∙◌, inl, inr, arith}
+use Rattle.std.proofs.Common.{◌≡◌, ℕ, zero, suc, ◌+◌, ◌<◌, ◌≤◌, cond, eqb, List, [], ◌∷◌, length, get_or, take, set, Some, None, sym, refl, ap, ◌∙◌, inl, inr, arith}
 use Rattle.std.proofs.lemmas.List.{get_or-set_same, get_or-set_other, get_or-take, length-set, length-take, length-take-le}
-use Rattle.std.proofs.lemmas.Bool.{cases_Bool, cases_eq, eq-eqb, ne_eqb, eqb-true, eqb-false, lt-ltb, ltb-true}
+use Rattle.std.specs.Ordering.{is_lt, nat_cmp}
+use Rattle.std.specs.declared.cmp.Ordering.{Ordering}
+use Rattle.std.proofs.lemmas.Bool.{cases_Bool, cases_eq, eq-eqb, ne_eqb, eqb-true, eqb-false}
+use Rattle.std.proofs.lemmas.Bool.Decides.{nat_tests}
+use Rattle.std.proofs.lemmas.Cmp.{nat_cmp_total, ranked}
 use Rattle.table.specs.Tables.{Rising, Lacks, placed}
 use Rattle.table.specs.Lookups.{lookup}
 use Rattle.table.proofs.Searching.{far}
@@ -9,12 +13,15 @@ use Rattle.table.proofs.Searching.{far}
 pub nothing : {X : Type 0} {x : X} → Some x ≡ None → ⊥
 nothing e = let z : ◌≡◌ {A = ℕ} 0 1 = cc in omega arith
 
-ltb_transitive : (x y z : ℕ) → ltb x y ≡ true → ltb y z ≡ true → ltb x z ≡ true
-ltb_transitive x y z p q = lt-ltb x z (omega (arith, ltb-true x y p, ltb-true y z q))
+less : (x y : ℕ) → nat_cmp x y ≡ Ordering.Less → x < y
+less x y e = ranked x y _ (sym e)
+
+is_less : (x y : ℕ) → x < y → nat_cmp x y ≡ Ordering.Less
+is_less x y h = grind (arith, nat_tests)
 
 module _ {X : Type 0} (key : X → ℕ) where
   abbrev pub Up : List X → Type 0
-  Up xs = Rising (λ x y. ltb x y) key xs
+  Up xs = Rising nat_cmp key xs
 
   pub lacks_lookup : (xs : List X) (k : ℕ) → Lacks key k xs → lookup key xs k ≡ None
   lacks_lookup [] k lacks = refl
@@ -33,7 +40,7 @@ module _ {X : Type 0} (key : X → ℕ) where
 
   pub first_at : (xs : List X) → Up xs → (i k : ℕ) (d : X) → i < length xs → key (get_or xs i d) ≡ k → First xs i k d
   first_at xs up i k d l e =
-      ((λ j h f. omega (arith, e, f, ltb-true (key (get_or xs j d)) (key (get_or xs i d)) (far (λ x y. ltb x y) ltb_transitive key xs up j i d h l))), l, e)
+      ((λ j h f. omega (arith, e, f, less (key (get_or xs j d)) (key (get_or xs i d)) (far nat_cmp nat_cmp_total key xs up j i d h l))), l, e)
 
   pub first-lookup : (xs : List X) (i k : ℕ) (d : X) → First xs i k d → lookup key xs k ≡ Some (get_or xs i d)
   first-lookup [] i k d (first, l, e) = absurd (omega arith)
@@ -42,10 +49,10 @@ module _ {X : Type 0} (key : X → ℕ) where
       rw (ne_eqb (key x) k (first 0 (omega arith))) (first-lookup xs i k d ((λ j h. first (suc j) (omega arith)), omega arith, e))
 
   pub lookup-placed : (x : X) (xs : List X) (m : ℕ) → lookup key xs (key x) ≡ None →
-      lookup key (placed (λ a b. ltb a b) key x xs) m ≡ cond (eqb (key x) m) (Some x) (lookup key xs m)
+      lookup key (placed nat_cmp key x xs) m ≡ cond (eqb (key x) m) (Some x) (lookup key xs m)
   lookup-placed x [] m e = refl
   lookup-placed x (y ∷ ys) m e =
-      elim (cases_Bool (ltb (key x) (key y))) [
+      elim (cases_Bool (is_lt (nat_cmp (key x) (key y)))) [
         | inl s ↦ rw s refl
         | inr s ↦ rw s (
             elim (cases_Bool (eqb (key y) (key x))) [
@@ -79,7 +86,7 @@ module _ {X : Type 0} (key : X → ℕ) where
         let top : k + 1 < len = omega (arith, length-take len xs) in
         let a = ap key (get_or-take len (set xs i y) k d (omega arith)) ∙ (key_set k d ∙ sym (ap key (get_or-take len xs k d (omega arith)))) in
         let b = ap key (get_or-take len (set xs i y) (k + 1) d top) ∙ (key_set (k + 1) d ∙ sym (ap key (get_or-take len xs (k + 1) d top))) in
-        lt-ltb _ _ (omega (arith, a, b, ltb-true _ _ (up k d (omega arith))))
+        is_less (key (get_or (take len (set xs i y)) k d)) (key (get_or (take len (set xs i y)) (k + 1) d)) (omega (arith, a, b, less (key (get_or (take len xs) k d)) (key (get_or (take len xs) (k + 1) d)) (up k d (omega arith))))
 
 pub take-set : {X : Type 0} (n : ℕ) (xs : List X) (i : ℕ) (s : X) → take n (set xs i s) ≡ set (take n xs) i s
 take-set zero xs i s = refl
