@@ -1,2 +1,2 @@
-pub mod Found
-pub mod Named
+pub mod Looking
+pub mod Keys

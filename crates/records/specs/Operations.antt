@@ -1,4 +1,4 @@
--- What the table of operations holds of each name, and at each position.
+-- What the table of operations, seen as the list of its records, holds of each name, and at each position.
 --
 --   no_operation               what is read past the last record
 --   operation_of t name        the operation of a name, if there is one
@@ -8,27 +8,26 @@
 --   member_list o              the numbers of the member events
 --   joint_past_of, whole_past_of, first_reach_of, joint_reach_of   the rows of the four cuts
 --   cut_of o w                 the row of cut w, from 1 to 4
-use Rattle.std.specs.Prelude.{◌≡◌, ℕ, ◌<◌, cond, ◌==◌, List, [], take, Some, None, Option, nat_lt, slice_index_or}
+use Rattle.std.specs.Prelude.{◌≡◌, ℕ, ◌<◌, cond, ◌==◌, List, [], length, take, Some, None, Option, nat_lt, slice_index_or}
 use Rattle.gathering.specs.declared.Row.{Row}
 use Rattle.table.specs.Lookups.{lookup}
-use Rattle.records.specs.declared.operations.Operations.{Operations}
 use Rattle.records.specs.declared.operations.Operation.{Operation}
 
 abbrev pub no_operation : Operation
 no_operation = record { name = 0; len = 0; members = []; first = record { counts = [] }; last = record { counts = [] }; cuts = [] }
 
-abbrev pub operation_of : Operations → ℕ → Option Operation
-operation_of t name = lookup (λ (o : Operation). o.name) (take t.len t.records) name
+abbrev pub operation_of : List Operation → ℕ → Option Operation
+operation_of t name = lookup (λ (o : Operation). o.name) t name
 
-abbrev pub record_at : Operations → ℕ → Operation
-record_at t i = slice_index_or t.records i no_operation
+abbrev pub record_at : List Operation → ℕ → Operation
+record_at t i = slice_index_or t i no_operation
 
-abbrev pub operation_at : Operations → ℕ → Option Operation
-operation_at t i = cond (nat_lt i t.len) (Some (record_at t i)) None
+abbrev pub operation_at : List Operation → ℕ → Option Operation
+operation_at t i = cond (nat_lt i (length t)) (Some (record_at t i)) None
 
-abbrev pub FindsOperation : Operations → ℕ → Option ℕ → Type 0
+abbrev pub FindsOperation : List Operation → ℕ → Option ℕ → Type 0
 FindsOperation t name None = operation_of t name ≡ None
-FindsOperation t name (Some i) = (i < t.len) × ((record_at t i).name ≡ name) × (operation_of t name ≡ Some (record_at t i))
+FindsOperation t name (Some i) = (i < length t) × ((record_at t i).name ≡ name) × (operation_of t name ≡ Some (record_at t i))
 
 abbrev pub member_list : Operation → List ℕ
 member_list o = take o.len o.members

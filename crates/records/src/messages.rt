@@ -1,8 +1,6 @@
 //! The messages that were sent.
 
-ghost use Rattle.std.specs.Prelude.{◌≡◌, ◌≤◌, length, take, nat_lt};
-ghost use Rattle.table.specs.Tables.{Rising};
-
+use std::marker::Model;
 use table::Keyed;
 
 pub mod methods;
@@ -29,12 +27,22 @@ impl Keyed for Sent {
     }
 }
 
-/// The messages of a trace, by rising number.
+/// The messages of a trace. To its users it is the list of them, by rising number.
 #[derive(Drop)]
 pub struct Messages {
     records: [Sent; MAX_MESSAGES],
     len: usize,
-    ghost long: { length records ≡ 512 },
-    ghost within: { len ≤ 512 },
-    ghost rising: { Rising (λ x y. nat_lt x y) (λ s. s.message) (take len records) },
+}
+
+impl Model for Messages {
+    ghost use Rattle.std.specs.Ordering.{nat_cmp};
+    ghost use Rattle.std.specs.Prelude.{◌≡◌, ◌≤◌, List, length, take};
+    ghost use Rattle.table.specs.Tables.{Rising};
+    ghost use Rattle.records.specs.declared.messages.Sent.{Sent};
+
+    ghost Value = { List Sent };
+
+    ghost view = { λ t. take t.len t.records };
+
+    ghost invariant = { λ t. (length t.records ≡ 512) × (t.len ≤ 512) × Rising nat_cmp (λ (s : Sent). s.message) (take t.len t.records) };
 }

@@ -1,9 +1,7 @@
 //! The operations of a trace.
 
-ghost use Rattle.std.specs.Prelude.{◌≡◌, ◌≤◌, length, take, nat_lt};
-ghost use Rattle.table.specs.Tables.{Rising};
-
 use gathering::Row;
+use std::marker::Model;
 use table::Keyed;
 
 pub mod methods;
@@ -39,12 +37,22 @@ impl Keyed for Operation {
     }
 }
 
-/// The operations of a trace, by rising name.
+/// The operations of a trace. To its users it is the list of them, by rising name.
 #[derive(Drop)]
 pub struct Operations {
     records: [Operation; MAX_OPERATIONS],
     len: usize,
-    ghost long: { length records ≡ 32 },
-    ghost within: { len ≤ 32 },
-    ghost rising: { Rising (λ x y. nat_lt x y) (λ o. o.name) (take len records) },
+}
+
+impl Model for Operations {
+    ghost use Rattle.std.specs.Ordering.{nat_cmp};
+    ghost use Rattle.std.specs.Prelude.{◌≡◌, ◌≤◌, List, length, take};
+    ghost use Rattle.table.specs.Tables.{Rising};
+    ghost use Rattle.records.specs.declared.operations.Operation.{Operation};
+
+    ghost Value = { List Operation };
+
+    ghost view = { λ t. take t.len t.records };
+
+    ghost invariant = { λ t. (length t.records ≡ 32) × (t.len ≤ 32) × Rising nat_cmp (λ (o : Operation). o.name) (take t.len t.records) };
 }

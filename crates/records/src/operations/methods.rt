@@ -1,6 +1,6 @@
 //! Looking up and adding operations.
 
-ghost use Rattle.std.specs.Prelude.{◌≡◌, ℕ, ◌+◌, ◌<◌, if◌then◌else◌, Some, None, MatchOption, nat_eq};
+ghost use Rattle.std.specs.Prelude.{◌≡◌, ℕ, ◌+◌, ◌<◌, if◌then◌else◌, Some, None, MatchOption, nat_eq, length};
 ghost use Rattle.records.specs.Operations.{FindsOperation, cut_of, operation_at, operation_of};
 
 use super::{MAX_MEMBERS, MAX_OPERATIONS, Operation, Operations};
@@ -24,7 +24,7 @@ impl Operation {
 impl Operations {
     /// No operations.
     pub fn new() -> Self
-        ensures len { result.len ≡ 0 }
+        ensures len { length result ≡ 0 }
     {
         let zeros = Row { counts: [0; ROW] };
         Operations {
@@ -42,14 +42,14 @@ impl Operations {
 
     /// Forgets all operations.
     pub fn clear(&mut self)
-        ensures len { self.new.len ≡ 0 }
+        ensures len { length self.new ≡ 0 }
     {
         self.len = 0;
     }
 
     /// How many operations there are.
     pub fn count(&self) -> usize
-        ensures { result ≡ self.now.len }
+        ensures { result ≡ length self.now }
     {
         self.len
     }
@@ -58,51 +58,40 @@ impl Operations {
     pub fn find(&self, name: u64) -> Option<usize>
         ensures { FindsOperation self.now name result }
     {
-        match table::find(&self.records, self.len, &name) {
-            Some(at) => Some(at),
-            None => None,
-        }
+        table::find(&self.records[..self.len], &name)
     }
 
     /// The operation at a position, if there is one.
     pub fn at(&self, position: usize) -> Option<Operation>
         ensures { result ≡ operation_at self.now position }
     {
-        if position < self.len {
-            Some(self.records[position])
-        } else {
-            None
-        }
+        self.records[..self.len].get(position).copied()
     }
 
     /// The operation of this name, if there is one.
     pub fn get(&self, name: u64) -> Option<Operation>
         ensures { result ≡ operation_of self.now name }
     {
-        match table::find(&self.records, self.len, &name) {
-            Some(at) => Some(self.records[at]),
-            None => None,
-        }
+        self.get_ref(name).copied()
     }
 
     /// The operation of this name, if there is one, where it lies.
     pub fn get_ref(&self, name: u64) -> Option<&Operation>
         ensures { MatchOption result (operation_of self.now name ≡ None) (λ o. operation_of self.now name ≡ Some o.now) }
     {
-        match table::find(&self.records, self.len, &name) {
-            Some(at) => Some(&self.records[at]),
-            None => None,
-        }
+        let held = &self.records[..self.len];
+        let at = table::find(held, &name)?;
+        Some(&held[at])
     }
 
     /// Adds an operation whose name is new.
     pub fn insert(&mut self, item: Operation)
-        requires room { self.old.len < 32 }
+        requires room { length self.old < 32 }
         requires fresh { operation_of self.old item.name ≡ None }
-        ensures len { self.new.len ≡ self.old.len + 1 }
+        ensures len { length self.new ≡ length self.old + 1 }
         ensures sets { (name : ℕ) → operation_of self.new name ≡ (if nat_eq item.name name then Some item else operation_of self.old name) }
     {
-        table::insert(&mut self.records, self.len, item);
+        table::insert(&mut self.records[..self.len + 1], item);
         self.len += 1;
     }
 }

@@ -1,13 +1,12 @@
-use Rattle.std.proofs.Common.{take, sym}
-use Rattle.table.proofs.Lookups.{lacks_lookup, found-lookup}
-use Rattle.records.proofs.Named.{name_of, room}
+use Rattle.std.proofs.Common.{sym, rules}
+use Rattle.records.proofs.Looking.{got, absent}
+use Rattle.records.proofs.Keys.{name_of}
 use Rattle.records.proofs.operations.Operations.get_ref.Goals as goal
 
-pub returns-in-Some : goal.returns-in-Some
-returns-in-Some c =
-    let s = c.args.self.now in
-    let found = c.in-Some.ensures in
-    sym (found-lookup name_of s.records s.len (room s) s.rising c.in-Some.at c.args.name _ found.0 found.1)
+pub returns-in_err-at : goal.returns-in_err-at
+returns-in_err-at c =
+    let none = absent name_of c.self.inside.records c.self.inside.len c.self.invariant _ c.self.view_is c.args.name c.in_err-at.ensures in
+    search rules
 
-pub returns-in-None : goal.returns-in-None
-returns-in-None c = let s = c.args.self.now in lacks_lookup name_of (take s.len s.records) c.args.name c.in-None.ensures
+pub returns : goal.returns
+returns c = sym (got name_of c.self.inside.records c.self.inside.len c.self.invariant _ c.self.view_is c.in_ok-at.at c.args.name _ c.in_ok-at.ensures)
