@@ -5,9 +5,10 @@ ghost use Rattle.summaries.specs.Summed.{Summed};
 ghost use Rattle.std.specs.Prelude.{◌≡◌};
 
 use crate::members::Members;
-use crate::rows::{View, bounds, from_end, lengths};
+use crate::rows::{bounds, from_end, from_last, lengths, own_row_of};
 use causality::Event;
 use clock::Clock;
+use counting::row_of;
 use gathering::{Earliest, Greatest, Least};
 use records::Operation;
 
@@ -23,10 +24,13 @@ pub fn summarize<F: Clock, R: Clock>(
     ensures name { result.name ≡ name }
     ensures summed { Summed (F.Clock.means forward.now) (R.Clock.means reverse.now) events.now total (listed members.now) result }
 {
-    let held = &members.events[0..members.len as usize];
-    let (first, last) = bounds::<F, Earliest, Greatest>(forward, View::Own(events), held);
-    let (joint_past, whole_past) = bounds::<F, Least, Greatest>(forward, View::Whole, held);
-    let (least, greatest) = bounds::<R, Least, Greatest>(reverse, View::FromLast(total), held);
+    let held = &members.events[..members.len as usize];
+    let (first, last) = bounds::<Earliest, Greatest, _>(held, |e| own_row_of(forward, events, e));
+    let (joint_past, whole_past) = bounds::<Least, Greatest, _>(held, |e| row_of(forward, e));
+    let (least, greatest) = bounds::<Least, Greatest, _>(
+        held,
+        |e| row_of(reverse, from_last(total, e)),
+    );
     let ends = lengths(forward, reverse, total);
     Operation {
         name,
