@@ -1,13 +1,13 @@
 //! The rows of members, and rows joined.
 
 ghost use Rattle.std.specs.List.{AllZip};
-ghost use Rattle.std.specs.Prelude.{◌≡◌, ℕ, ◌<◌, ◌≤◌, ◌-◌, List, length, slice_index};
+ghost use Rattle.std.specs.Prelude.{◌≡◌, ℕ, ◌<◌, ◌≤◌, List, length, slice_index};
 ghost use Rattle.gathering.specs.Gathering.{joined_all};
 ghost use Rattle.counting.specs.Counting.{or_zeros};
 ghost use Rattle.gathering.specs.declared.Row.{Row};
 ghost use Rattle.history.specs.Answers.{with_row};
 ghost use Rattle.records.specs.Summaries.{at_node};
-ghost use Rattle.summaries.specs.Rows.{column_length, from_column_end, length-row, own_count, own_row, own_row_of};
+ghost use Rattle.summaries.specs.Rows.{from_column_end, own_count, own_row, own_row_of};
 
 use causality::Event;
 use clock::{Clock, stands};
@@ -57,32 +57,6 @@ fn own_count<C: Clock>(clock: &C, event: Event, e: u16, i: u16) -> u16
         clock.count(e, i).unwrap_or(0)
     } else {
         0
-    }
-}
-
-// Event e, counted from the last of so many events; and back.
-pub(crate) fn from_last(total: u16, e: u16) -> u16
-    ensures { result ≡ total - 1 - e }
-{
-    total.saturating_sub(1).saturating_sub(e)
-}
-
-// How many events each node has.
-pub(crate) fn lengths<F: Clock, R: Clock>(forward: &F, reverse: &R, total: u16) -> Row
-    ensures { result ≡ length-row (F.Clock.means forward.now) (R.Clock.means reverse.now) total }
-{
-    Row {
-        counts: array::from_fn(|i| column_length(forward, reverse, total, i as u16 + 1)),
-    }
-}
-
-// How many events node i has: the index of its last event, which the reverse clock has as its first.
-fn column_length<F: Clock, R: Clock>(forward: &F, reverse: &R, total: u16, i: u16) -> u16
-    ensures { result ≡ column_length (F.Clock.means forward.now) (R.Clock.means reverse.now) total i }
-{
-    match reverse.at(i, 1) {
-        Some(e) => forward.count(from_last(total, e), i).unwrap_or(0),
-        None => 0,
     }
 }
 

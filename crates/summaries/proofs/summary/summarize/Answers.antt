@@ -1,4 +1,4 @@
-use Rattle.std.proofs.Common.{◌≡◌, ℕ, min, max, List, map, take, ap, ◌∙◌, arith, rules}
+use Rattle.std.proofs.Common.{◌≡◌, ℕ, min, max, List, length, map, take, ap, ◌∙◌, arith, rules}
 use Rattle.gathering.specs.declared.Row.{Row}
 use Rattle.gathering.specs.Gathering.{earliest, joined_all}
 use Rattle.gathering.specs.Absent.{earliest_associative}
@@ -23,10 +23,10 @@ bound f law of ms rows r is h = h ∙ ap (λ (rs : List Row). or_zeros (joined_a
 pub returns-clause-summed : goal.returns-clause-summed
 returns-clause-summed g c vs n x xs t members held =
     let m = c.args.members.now in
-    let es = c.args.events.now in
-    let total = c.args.total in
-    let μ = g.F.Clock.means c.args.forward.now in
-    let ρ = g.R.Clock.means c.args.reverse.now in
+    let es = c.args.trace.now.events.now in
+    let total = length es in
+    let μ = g.F.Clock.means c.args.trace.now.forward.now in
+    let ρ = g.R.Clock.means c.args.trace.now.reverse.now in
     let ms = take m.len m.events in
     let (own, own_each, first, last) = c.bounds.ensures in
     let (whole, whole_each, joint_past, whole_past) = c.bounds-2.ensures in
