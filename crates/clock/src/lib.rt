@@ -17,7 +17,7 @@ pub const NODES: usize = MAX_NODES as usize;
 pub const ENTRIES: usize = MAX_ENTRIES as usize;
 
 /// An entry that a clock is asked to take: its node, the second node of a meet, and the entry that it follows by a message.
-#[derive(Clone, Copy, PartialEq, Eq, Debug)]
+#[derive(Clone, Copy, PartialEq, Eq, Debug, Default)]
 pub struct NewEntry {
     pub node: u16,
     pub partner: Option<u16>,

@@ -9,25 +9,7 @@ use Rattle.gathering.proofs.Folds.{folded_out}
 use Rattle.gathering.specs.Zips.{zipped_assoc, length-zipped, get_or-zipped}
 use Rattle.history.specs.Answers.{row}
 use Rattle.counting.specs.Counting.{or_zero, or_zeros, count_row, Joint, JointRow}
-use Rattle.counting.proofs.Rows.{length-row}
-
-get_or-left : (xs ys : List ℕ) (i : ℕ) → i < length xs → get_or (xs ++ ys) i 0 ≡ get_or xs i 0
-get_or-left [] ys i l = absurd (omega arith)
-get_or-left (x ∷ xs) ys zero l = refl
-get_or-left (x ∷ xs) ys (suc i) l = get_or-left xs ys i (omega arith)
-
-get_or-next : (xs : List ℕ) (y i : ℕ) → i ≡ length xs → get_or (xs ++ (y ∷ [])) i 0 ≡ y
-get_or-next [] y i e = rw e refl
-get_or-next (x ∷ xs) y zero e = absurd (omega arith)
-get_or-next (x ∷ xs) y (suc i) e = get_or-next xs y i (omega arith)
-
-pub get_or-row : (f : ℕ → ℕ) (n i : ℕ) → i < n → get_or (row f n) i 0 ≡ f (suc i)
-get_or-row f zero i l = absurd (omega arith)
-get_or-row f (suc n) i l =
-    elim (cases_eq i n) [
-      | inl e ↦ get_or-next (row f n) (f (suc n)) i (e ∙ sym (length-row f n)) ∙ ap (λ (k : ℕ). f (suc k)) (sym e)
-      | inr e ↦ get_or-left (row f n) (f (suc n) ∷ []) i (omega (arith, length-row f n)) ∙ get_or-row f n i (omega arith)
-    ]
+use Rattle.counting.proofs.Rows.{length-row, get_or-row}
 
 module _ (f : ℕ → ℕ → ℕ) (associative : (x y z : ℕ) → f (f x y) z ≡ f x (f y z)) where
   abbrev pub op : Row → Row → Row

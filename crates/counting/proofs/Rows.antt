@@ -1,11 +1,25 @@
 -- Rows that are written number by number.
-use Rattle.std.proofs.Common.{◌≡◌, ℕ, zero, suc, ◌<◌, ◌≤◌, List, [], ◌∷◌, ◌++◌, length, get_or, take, drop, set, sym, refl, ap, ◌∙◌, subst, ap₂, append_assoc, arith, length-append, drop-cons}
-use Rattle.std.proofs.lemmas.List.{append-nil, drop_all, length-take-le}
+use Rattle.std.proofs.Common.{◌≡◌, ℕ, zero, suc, ◌<◌, ◌≤◌, List, [], ◌∷◌, ◌++◌, length, get_or, take, drop, set, sym, refl, ap, ◌∙◌, subst, ap₂, append_assoc, arith, length-append, drop-cons, inl, inr}
+use Rattle.std.proofs.Math.Seq.{get_or-append_seam}
+use Rattle.std.proofs.lemmas.Bool.{cases_eq}
+use Rattle.std.proofs.lemmas.List.{append-nil, drop_all, length-take-le, ext_get_or, get_or_append_left}
 use Rattle.history.specs.Answers.{row}
 
 pub length-row : (f : ℕ → ℕ) (n : ℕ) → length (row f n) ≡ n
 length-row f zero = refl
 length-row f (suc n) = length-append (row f n) (f (suc n) ∷ []) ∙ omega (arith, length-row f n)
+
+pub get_or-row : (f : ℕ → ℕ) (n i : ℕ) → i < n → get_or (row f n) i 0 ≡ f (suc i)
+get_or-row f zero i l = absurd (omega arith)
+get_or-row f (suc n) i l =
+    elim (cases_eq i n) [
+      | inl e ↦ ap (λ (k : ℕ). get_or (row f n ++ (f (suc n) ∷ [])) k 0) (e ∙ sym (length-row f n)) ∙ get_or-append_seam (row f n) (f (suc n)) [] 0 ∙ ap (λ (k : ℕ). f (suc k)) (sym e)
+      | inr e ↦ get_or_append_left (row f n) (f (suc n) ∷ []) 0 i (omega (arith, length-row f n)) ∙ get_or-row f n i (omega arith)
+    ]
+
+-- a list that has f of each node is the row of f
+pub row_is : (f : ℕ → ℕ) (n : ℕ) (xs : List ℕ) → length xs ≡ n → ((i : ℕ) → i < n → get_or xs i 0 ≡ f (suc i)) → xs ≡ row f n
+row_is f n xs long at = ext_get_or 0 xs (row f n) (long ∙ sym (length-row f n)) (λ i l. at i (omega arith) ∙ sym (get_or-row f n i (omega arith)))
 
 pub row_like : (f g : ℕ → ℕ) (n : ℕ) → ((i : ℕ) → 1 ≤ i → i ≤ n → f i ≡ g i) → row f n ≡ row g n
 row_like f g zero h = refl

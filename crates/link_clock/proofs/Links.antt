@@ -1,18 +1,19 @@
 -- Links of a list of takes, with one more entry, and what their predecessors tell of pasts.
-use Rattle.std.proofs.Common.{◌≡◌, ℕ, zero, suc, ◌+◌, ◌-◌, ◌<◌, ◌≤◌, Bool, true, cond, ◌||◌, eqb, ltb, ◌≢◌, List, [], ◌∷◌, ◌++◌, length, get_or, set, replicate, Some, None, Option, sym, refl, ap, ◌∙◌, ap₂, inl, inr, add-one, arith, below_more}
+use Rattle.std.proofs.Common.{◌≡◌, ℕ, zero, suc, ◌+◌, ◌-◌, ◌<◌, ◌≤◌, Bool, true, cond, ◌||◌, eqb, ltb, List, [], ◌∷◌, ◌++◌, length, get_or, replicate, Some, None, Option, sym, refl, ap, ◌∙◌, ap₂, inl, inr, add-one, arith, below_more}
 use mathlib.Core.Bool.{Bool-set}
 use mathlib.Core.Logic.{∥∥₁_elim, ∥∥₁_prop}
 use Rattle.std.specs.Option.{option_to_list}
 use Rattle.std.specs.List.{AllByRecursion}
 use Rattle.std.proofs.ByRecursion.{All-append}
-use Rattle.std.proofs.lemmas.List.{get_or-set_same, get_or-set_other, get_or-replicate}
+use Rattle.std.proofs.Math.Seq.{get_or-append_seam}
+use Rattle.std.proofs.lemmas.List.{get_or_append_left, get_or-replicate}
 use Rattle.std.proofs.lemmas.Bool.{cases_Bool, cases_eq, and_parts, and_from, lt-ltb, ltb-true}
 use Rattle.causality.specs.Entries.{Entry, at_either, latest, predecessors, in_some, past}
 use Rattle.causality.proofs.Pasts.{past-tail, past_head}
 use Rattle.causality.specs.Limits.{max_nodes, is_node}
-use Rattle.clock.specs.Meaning.{max_entries, if_given, asked}
+use Rattle.clock.specs.Meaning.{if_given, asked}
 use Rattle.clock.specs.Takes.{entries_of}
-use Rattle.clock.proofs.Arrays.{length-listed, listed_like, listed-set, node_bounds, given_up, Admitted}
+use Rattle.clock.proofs.Arrays.{length-listed, listed_like, node_bounds, given_up, Admitted}
 use Rattle.clock.proofs.Takes.{length-entries, latest-low}
 use Rattle.link_clock.specs.declared.Link.{Link}
 use Rattle.link_clock.specs.Links.{no_link, entry_of, takes_of, before, earlier, Keeps, Kept, latest_of, Noted}
@@ -74,28 +75,34 @@ linked len links latest_at kept = record { low = λ z l. ∥∥₁_elim kept (Bo
 
 -- ---- one more entry
 
-module _ (len : ℕ) (links : List Link) (latest_at latest_at' : List (Option ℕ)) (a : ℕ) (b m own other : Option ℕ) (tall : length links ≡ max_entries) (ok : Admitted len a b m)
+module _ (len : ℕ) (links : List Link) (latest_at latest_at' : List (Option ℕ)) (a : ℕ) (b m own other : Option ℕ) (all : length links ≡ len) (ok : Admitted len a b m)
     (own_is : own ≡ latest_of latest_at (Some a)) (other_is : other ≡ latest_of latest_at b) (noted : Noted latest_at a b len latest_at') where
   abbrev new : Link
   new = record { entry = record { node = a; partner = b; prior = m }; own = own; other = other }
 
-  pub takes_more : takes_of (set links len new) (len + 1) ≡ asked a b m ∷ takes_of links len
-  takes_more = rw add-one (listed-set entry_of links no_link new len (omega (arith, ok.room)))
+  abbrev more : List Link
+  more = links ++ (new ∷ [])
 
-  takes_same : (k : ℕ) → k ≤ len → takes_of (set links len new) k ≡ takes_of links k
-  takes_same k l = listed_like _ _ k (λ e h. let ne : e ≢ len = omega arith in ap entry_of (get_or-set_other links len e new no_link ne))
+  here : get_or more len no_link ≡ new
+  here = ap (λ (n : ℕ). get_or more n no_link) (sym all) ∙ get_or-append_seam links new [] no_link
 
-  keeps_more : Keeps len links latest_at → Keeps (len + 1) (set links len new) latest_at'
+  old : (e : ℕ) → e < len → get_or more e no_link ≡ get_or links e no_link
+  old e l = get_or_append_left links (new ∷ []) no_link e (omega arith)
+
+  takes_same : (k : ℕ) → k ≤ len → takes_of more k ≡ takes_of links k
+  takes_same k l = listed_like _ _ k (λ e h. ap entry_of (old e (omega arith)))
+
+  pub takes_more : takes_of more (len + 1) ≡ asked a b m ∷ takes_of links len
+  takes_more = rw add-one (ap₂ (λ (t : Entry) (ts : List Entry). t ∷ ts) (ap entry_of here) (takes_same len (omega arith)))
+
+  keeps_more : Keeps len links latest_at → Keeps (len + 1) more latest_at'
   keeps_more k =
-      let here : get_or (set links len new) len no_link ≡ new = get_or-set_same links len new no_link (omega (arith, ok.room)) in
-      let old : (e : ℕ) → e < len → get_or (set links len new) e no_link ≡ get_or links e no_link =
-      λ e l. let ne : e ≢ len = omega arith in get_or-set_other links len e new no_link ne in
       record {
-        right = below_more (λ e. before (get_or (set links len new) e no_link) ≡ predecessors (entry_of (get_or (set links len new) e no_link)) (takes_of (set links len new) e)) len
+        right = below_more (λ e. before (get_or more e no_link) ≡ predecessors (entry_of (get_or more e no_link)) (takes_of more e)) len
             (λ e l. rw (old e l, takes_same e (omega arith)) (k.right e l))
             (rw here (ap₂ (λ (o p : Option ℕ). option_to_list o ++ (option_to_list p ++ option_to_list m)) (own_is ∙ last_of k (Some a) ok.node) (other_is ∙ last_of k b ok.partner)
             ∙ ap (predecessors (asked a b m)) (sym (takes_same len (omega arith)))));
-        low = below_more (λ e. earlier e (get_or (set links len new) e no_link) ≡ true) len
+        low = below_more (λ e. earlier e (get_or more e no_link) ≡ true) len
             (λ e l. rw (old e l) (k.low e l))
             (rw here (and_from _ _ (held k (Some a) own ok.node own_is) (and_from _ _ (held k b other ok.partner other_is) ok.held)));
         last = λ i h. noted i h ∙ ap (cond (at_either a b i) (Some len)) (k.last i h) ∙ newest-more i ∙ ap (λ (ts : List Entry). latest ts (Some i)) (sym takes_more);
@@ -111,14 +118,14 @@ module _ (len : ℕ) (links : List Link) (latest_at latest_at' : List (Option �
       newest-more : (i : ℕ) → cond (at_either a b i) (Some len) (latest (takes_of links len) (Some i)) ≡ latest (asked a b m ∷ takes_of links len) (Some i)
       newest-more i = elim (cases_Bool (at_either a b i)) [ inl s ↦ rw (s, length_takes links len) | inr s ↦ rw s ]
 
-  pub kept_more : Kept len links latest_at → Kept (len + 1) (set links len new) latest_at'
+  pub kept_more : Kept len links latest_at → Kept (len + 1) more latest_at'
   kept_more kept = ∥∥₁_elim kept ∥∥₁_prop (λ k. ∣ keeps_more k ∣₁)
 
 -- ---- no entries
 
-pub kept-none : (links : List Link) → Kept 0 links (replicate max_nodes None)
-kept-none links = ∣ record {
+pub kept-none : (links : List Link) → links ≡ [] → Kept (length links) links (replicate max_nodes None)
+kept-none links none = rw none (∣ record {
   right = λ e l. absurd (omega arith);
   low = λ e l. absurd (omega arith);
   last = λ i h. get_or-replicate max_nodes (i - 1) None None (omega (arith, node_bounds max_nodes i h));
-} ∣₁
+} ∣₁)

@@ -3,16 +3,18 @@
 
 ghost use Rattle.std.specs.Prelude.{◌≡◌, ◌<◌, ◌≤◌, true, length, nat_lt, slice_index_or};
 ghost use Rattle.std.specs.Option.{option_to_list};
+ghost use Rattle.arrayvec.specs.ArrayVec.{array_vec_len};
 ghost use Rattle.causality.specs.Entries.{at as timeline_at, stamp};
 ghost use Rattle.causality.specs.Limits.{max_nodes, is_node};
 ghost use Rattle.clock.specs.Meaning.{max_entries, blank, if_given};
 ghost use Rattle.link_clock.specs.Links.{no_link, before, earlier, takes_of, links_mean, Kept, latest_of, Noted, marked, met, visited};
 ghost use Rattle.clock.proofs.Takes.{meanings_lawful};
 
+use arrayvec::ArrayVec;
 use clock::{Clock, ENTRIES, MAX_NODES, NODES, NewEntry, admits, is_node, knows};
 
 /// An entry as it was taken, and its immediate predecessors: beside its prior, the latest at its node and at its partner.
-#[derive(Clone, Copy)]
+#[derive(Clone, Copy, Default)]
 struct Link {
     entry: NewEntry,
     own: Option<u16>,
@@ -23,12 +25,11 @@ struct Link {
 #[derive(Drop)]
 pub struct LinkClock {
     nodes: u16,
-    len: u16,
-    links: [Link; ENTRIES],
+    links: ArrayVec<Link, ENTRIES>,
     latest: [Option<u16>; NODES],
-    ghost long: { (length links ≡ max_entries) × (length latest ≡ max_nodes) },
-    ghost within: { (len ≤ max_entries) × (nodes ≤ max_nodes) },
-    ghost kept: { Kept len links latest },
+    ghost long: { length latest ≡ max_nodes },
+    ghost within: { (array_vec_len links ≤ max_entries) × (nodes ≤ max_nodes) },
+    ghost kept: { Kept (array_vec_len links) links.items latest },
 }
 
 /// Entry e is now the latest at node a, and at b.
@@ -66,11 +67,18 @@ impl LinkClock {
     /// Sets n nodes and no entries.
     fn clear(&mut self, n: u16)
         requires { is_node max_nodes n ≡ true }
-        ensures { links_mean self.new.nodes self.new.len self.new.links ≡ blank n }
+        ensures { links_mean self.new.nodes (array_vec_len self.new.links) self.new.links.items ≡ blank n }
     {
         self.nodes = n;
-        self.len = 0;
+        self.links.clear();
         self.latest = [None; NODES];
+    }
+
+    /// How many entries there are.
+    fn len(&self) -> u16
+        ensures { result ≡ array_vec_len self.now.links }
+    {
+        self.links.len() as u16
     }
 
     /// The latest entry at node i.
@@ -83,9 +91,9 @@ impl LinkClock {
 
     /// Visits entry x: if it is marked, marks what comes before it, and answers whether it then stands at node i.
     fn visit(&self, marks: &mut [bool; ENTRIES], x: usize, i: u16) -> bool
-        requires { (x < max_entries) × (earlier max_entries (slice_index_or self.now.links x no_link) ≡ true) }
-        ensures after { marks.new ≡ visited self.now.links marks.old x }
-        ensures value { result ≡ met self.now.links marks.old x i }
+        requires { (x < array_vec_len self.now.links) × (earlier max_entries (slice_index_or self.now.links.items x no_link) ≡ true) }
+        ensures after { marks.new ≡ visited self.now.links.items marks.old x }
+        ensures value { result ≡ met self.now.links.items marks.old x i }
     {
         if !marks[x] {
             return false;
@@ -97,8 +105,8 @@ impl LinkClock {
 
     /// How many entries at node i lie in the past of e: one pass from e down to the oldest.
     fn walk(&self, e: u16, i: u16) -> u16
-        requires { e < self.now.len }
-        ensures { result ≡ stamp (takes_of self.now.links self.now.len) e i }
+        requires { e < array_vec_len self.now.links }
+        ensures { result ≡ stamp (takes_of self.now.links.items (array_vec_len self.now.links)) e i }
     {
         let mut marks = [false; ENTRIES];
         marks[e as usize] = true;
@@ -112,10 +120,10 @@ impl LinkClock {
     /// The k-th entry at node i: one pass from the oldest up.
     fn find(&self, i: u16, k: u16) -> Option<u16>
         requires { 1 ≤ k }
-        ensures { result ≡ timeline_at (takes_of self.now.links self.now.len) i k }
+        ensures { result ≡ timeline_at (takes_of self.now.links.items (array_vec_len self.now.links)) i k }
     {
         let mut height = 0;
-        for (x, link) in self.links[..self.len as usize].iter().enumerate() {
+        for (x, link) in self.links.iter().enumerate() {
             if link.entry.stands(i) {
                 height += 1;
                 if height == k {
@@ -128,29 +136,20 @@ impl LinkClock {
 }
 
 impl Clock for LinkClock {
-    ghost means = { λ s. links_mean s.nodes s.len s.links };
+    ghost means = { λ s. links_mean s.nodes (array_vec_len s.links) s.links.items };
 
-    ghost own = { λ s. (meanings_lawful s.nodes (takes_of s.links s.len)).own };
+    ghost own = { λ s. (meanings_lawful s.nodes (takes_of s.links.items (array_vec_len s.links))).own };
 
-    ghost through = { λ s. (meanings_lawful s.nodes (takes_of s.links s.len)).through };
+    ghost through = { λ s. (meanings_lawful s.nodes (takes_of s.links.items (array_vec_len s.links))).through };
 
-    ghost earliest = { λ s. (meanings_lawful s.nodes (takes_of s.links s.len)).earliest };
+    ghost earliest = { λ s. (meanings_lawful s.nodes (takes_of s.links.items (array_vec_len s.links))).earliest };
 
-    ghost no_higher = { λ s. (meanings_lawful s.nodes (takes_of s.links s.len)).no_higher };
+    ghost no_higher = { λ s. (meanings_lawful s.nodes (takes_of s.links.items (array_vec_len s.links))).no_higher };
 
     fn new() -> LinkClock {
         LinkClock {
             nodes: 1,
-            len: 0,
-            links: [Link {
-                entry: NewEntry {
-                    node: 0,
-                    partner: None,
-                    prior: None,
-                },
-                own: None,
-                other: None,
-            }; ENTRIES],
+            links: ArrayVec::new(),
             latest: [None; NODES],
         }
     }
@@ -164,20 +163,19 @@ impl Clock for LinkClock {
     }
 
     fn take(&mut self, entry: NewEntry) -> Option<u16> {
-        if !admits(self.nodes, self.len, entry) {
+        let e = self.len();
+        if !admits(self.nodes, e, entry) {
             return None;
         }
-        let e = self.len;
         let own = self.latest_at(Some(entry.node));
         let other = self.latest_at(entry.partner);
         note(&mut self.latest, entry.node, entry.partner, e);
-        self.links[e as usize] = Link { entry, own, other };
-        self.len = e + 1;
+        self.links.push(Link { entry, own, other });
         Some(e)
     }
 
     fn count(&self, e: u16, i: u16) -> Option<u16> {
-        if knows(self.nodes, self.len, e, i) {
+        if knows(self.nodes, self.len(), e, i) {
             Some(self.walk(e, i))
         } else {
             None

@@ -1,13 +1,14 @@
 -- Rows and columns of a list of takes mean that takes, and so do those with one more entry.
-use Rattle.std.proofs.Common.{◌≡◌, ℕ, suc, ◌+◌, ◌-◌, ◌<◌, ◌≤◌, max, true, cond, ◌&&◌, ltb, ◌≢◌, List, [], ◌∷◌, ◌++◌, length, get_or, set, replicate, Some, None, Option, sym, refl, ap, ◌∙◌, subst, ap₂, inl, inr, add-one, arith, below_more}
+use Rattle.std.proofs.Common.{◌≡◌, ℕ, suc, ◌+◌, ◌-◌, ◌<◌, ◌≤◌, max, true, cond, ◌&&◌, ltb, ◌≢◌, List, [], ◌∷◌, ◌++◌, length, get_or, set, Some, None, Option, sym, refl, ap, ◌∙◌, subst, ap₂, inl, inr, add-one, arith, below_more}
 use mathlib.Core.List.{is_set}
 use mathlib.Core.Bool.{Bool-set}
 use mathlib.Core.Logic.{∥∥₁_elim, ∥∥₁_prop}
 use native.Mathlib.Bridge.{le_prop}
 use native.Mathlib.Nat.{ℕ_set}
 use Rattle.std.specs.Option.{option_to_list}
-use Rattle.std.proofs.lemmas.List.{get_or-set_same, get_or-set_other, get_or-replicate}
+use Rattle.std.proofs.lemmas.List.{get_or-set_same, get_or-set_other}
 use Rattle.std.proofs.lemmas.Bool.{cases_Bool, and_from, and_parts, le-leb, ltb-true}
+use Rattle.arrayvec.specs.ArrayVec.{ArrayVec, array_vec_len}
 use Rattle.causality.specs.Newest.{entry, tally}
 use Rattle.causality.specs.Entries.{Entry, at_either, timeline, newest, latest, past, stamp, greatest, next_stamp}
 use Rattle.causality.proofs.Newest.{entry_head, entry-tail}
@@ -19,7 +20,6 @@ use Rattle.clock.specs.Arrays.{listed}
 use Rattle.clock.proofs.Arrays.{length-listed, listed_like, node_bounds, node_up, Admitted}
 use Rattle.clock.proofs.Takes.{held_timeline, tally-stamp, next_past-is, latest-low}
 use Rattle.row_clock.specs.declared.parts.Row.{Row}
-use Rattle.row_clock.specs.declared.parts.Column.{Column}
 use Rattle.row_clock.specs.Laws.{reaches_past, entries_kept}
 use Rattle.row_clock.specs.Rows.{no_row, no_column, cell, line_of, reaches, held_row, Keeps, Kept, latest_of, cell_of, next_count, Filed}
 
@@ -37,11 +37,11 @@ greatest-append f (x ∷ xs) ys = omega (arith, greatest-append f xs ys)
 
 -- ---- what rows and columns tell of their takes
 
-module _ (len : ℕ) (rows : List Row) (columns : List Column) (ts : List Entry) (k : Keeps len rows columns ts) where
-  column_len : (i : ℕ) → is_node max_nodes i ≡ true → (get_or columns (i - 1) no_column).len ≡ length (timeline ts i)
-  column_len i h = sym (length-listed _ (get_or columns (i - 1) no_column).len) ∙ ap length (k.filed i h)
+module _ (len : ℕ) (rows : List Row) (columns : List (ArrayVec ℕ)) (ts : List Entry) (k : Keeps len rows columns ts) where
+  column_len : (i : ℕ) → is_node max_nodes i ≡ true → array_vec_len (get_or columns (i - 1) no_column) ≡ length (timeline ts i)
+  column_len i h = sym (length-listed _ (array_vec_len (get_or columns (i - 1) no_column))) ∙ ap length (k.filed i h)
 
-  pub column-low : (i : ℕ) → is_node max_nodes i ≡ true → (get_or columns (i - 1) no_column).len ≤ len
+  pub column-low : (i : ℕ) → is_node max_nodes i ≡ true → array_vec_len (get_or columns (i - 1) no_column) ≤ len
   column-low i h = omega (arith, column_len i h, line_low ts i, k.size)
 
   latest_in : (o : Option ℕ) → if_given (is_node max_nodes) o ≡ true → latest_of columns o ≡ latest ts o
@@ -67,13 +67,13 @@ module _ (len : ℕ) (rows : List Row) (columns : List Column) (ts : List Entry)
       let y = option_to_list (latest ts b) in
       let most : greatest f (x ++ (y ++ option_to_list m)) ≡ max (greatest f x) (max (greatest f y) (greatest f (option_to_list m))) =
       greatest-append f x (y ++ option_to_list m) ∙ ap (max (greatest f x)) (greatest-append f y (option_to_list m)) in
-      let high : (get_or columns (i - 1) no_column).len + 1 ≡ suc (length (timeline ts i)) = omega (arith, column_len i h) in
+      let high : array_vec_len (get_or columns (i - 1) no_column) + 1 ≡ suc (length (timeline ts i)) = omega (arith, column_len i h) in
       let less = ap₂ max (latest-stamp i h (Some a) ok.node) (ap₂ max (latest-stamp i h b ok.partner) (cell-stamp i h m ok.held)) in
       ap₂ (cond (at_either a b i)) high (less ∙ sym most)
 
 -- ---- one more entry
 
-module _ (len : ℕ) (rows : List Row) (columns columns' : List Column) (a : ℕ) (b m : Option ℕ) (row : Row) (tall : length rows ≡ max_entries) (ok : Admitted len a b m)
+module _ (len : ℕ) (rows : List Row) (columns columns' : List (ArrayVec ℕ)) (a : ℕ) (b m : Option ℕ) (row : Row) (tall : length rows ≡ max_entries) (ok : Admitted len a b m)
     (node : row.node ≡ a) (partner : row.partner ≡ b) (filed : Filed columns a b len columns')
     (counts : (i : ℕ) → i < max_nodes → get_or row.counts i 0 ≡ next_count rows columns a b (latest_of columns (Some a)) (latest_of columns b) m (i + 1)) where
   keeps_more : (ts : List Entry) → Keeps len rows columns ts → Keeps (len + 1) (set rows len row) columns' (asked a b m ∷ ts)
@@ -124,7 +124,7 @@ module _ (len : ℕ) (rows : List Row) (columns columns' : List Column) (a : ℕ
 
 -- ---- what a clock answers
 
-module _ (n len : ℕ) (rows : List Row) (columns : List Column) (small : n ≤ max_nodes) (kept : Kept len rows columns) where
+module _ (n len : ℕ) (rows : List Row) (columns : List (ArrayVec ℕ)) (small : n ≤ max_nodes) (kept : Kept len rows columns) where
   pub cell-tally : (e i : ℕ) → true ≡ (ltb e len && is_node n i) → cell rows e i ≡ tally (within (listed (held_row rows) len) e) (held_at (listed (held_row rows) len) i)
   cell-tally e i h = ∥∥₁_elim kept (ℕ_set _ _) (λ (ts, k).
       let (p, q) = and_parts (ltb e len) (is_node n i) (sym h) in
@@ -137,22 +137,20 @@ module _ (n len : ℕ) (rows : List Row) (columns : List Column) (small : n ≤ 
   pub latest_held : (o : Option ℕ) → if_given (is_node max_nodes) o ≡ true → if_given (λ x. ltb x len) (latest_of columns o) ≡ true
   latest_held o h = ∥∥₁_elim kept (Bool-set _ _) (λ (ts, k). latest-fits len rows columns ts k o h)
 
-  pub column-room : (i : ℕ) → i < max_nodes → (get_or columns i no_column).len ≤ len
+  pub column-room : (i : ℕ) → i < max_nodes → array_vec_len (get_or columns i no_column) ≤ len
   column-room i l =
       let back : i + 1 - 1 ≡ i = omega arith in
       ∥∥₁_elim kept le_prop (λ (ts, k). rw back at (column-low len rows columns ts k (i + 1) (and_from _ _ (le-leb 1 (i + 1) (omega arith)) (le-leb (i + 1) max_nodes (omega arith)))))
 
 -- ---- no entries
 
-pub kept-none : (rows : List Row) (column : Column) → column.len ≡ 0 → Kept 0 rows (replicate max_nodes column)
-kept-none rows column none = ∣ (
+pub kept-none : (rows : List Row) (columns : List (ArrayVec ℕ)) → ((i : ℕ) → i < max_nodes → (get_or columns i no_column).items ≡ []) → Kept 0 rows columns
+kept-none rows columns none = ∣ (
   [],
   record {
     size = refl;
     placed = λ e l. absurd (omega arith);
     stamped = λ e i l. absurd (omega arith);
-    filed = λ i h.
-        ap (λ (c : Column). listed (λ k. get_or c.entries k 0) c.len) (get_or-replicate max_nodes (i - 1) column no_column (omega (arith, node_bounds max_nodes i h)))
-        ∙ ap (listed (λ k. get_or column.entries k 0)) none;
+    filed = λ i h. ap (λ (xs : List ℕ). listed (λ k. get_or xs k 0) (length xs)) (none (i - 1) (omega (arith, node_bounds max_nodes i h)));
   },
 ) ∣₁

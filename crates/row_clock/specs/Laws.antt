@@ -3,6 +3,7 @@ use Rattle.std.proofs.Common.{◌≡◌, ℕ, suc, ◌<◌, ◌≤◌, true, eqb
 use mathlib.Core.Logic.{∥∥₁_elim, ∥∥₁_prop}
 use Rattle.std.proofs.lemmas.Bool.Decides.{same_from_decides}
 use Rattle.std.proofs.lemmas.Bool.{cases_eq, eq-eqb, or_left, and_from, and_parts, le-leb, leb-true}
+use Rattle.arrayvec.specs.ArrayVec.{ArrayVec}
 use Rattle.causality.specs.Newest.{Mem}
 use Rattle.causality.specs.Entries.{Entry, at_either, timeline, past, at, stamp}
 use Rattle.causality.proofs.Newest.{entry-some, mem-entry, entry-kth, entry-order, numbers_in, numbers_descend}
@@ -13,7 +14,6 @@ use Rattle.clock.specs.Meaning.{Laws}
 use Rattle.clock.specs.Takes.{entries_of}
 use Rattle.clock.proofs.Takes.{OfTakes, entries_held, takes_lawful}
 use Rattle.row_clock.specs.declared.parts.Row.{Row}
-use Rattle.row_clock.specs.declared.parts.Column.{Column}
 use Rattle.row_clock.specs.Rows.{no_row, cell, reaches, held_row, rows_mean, Keeps, Kept}
 
 -- an entry is the k-th of its node, where k is its own count there
@@ -35,7 +35,7 @@ own_kth ts x i m =
           ))
     ]
 
-module _ (len : ℕ) (rows : List Row) (columns : List Column) (ts : List Entry) (k : Keeps len rows columns ts) where
+module _ (len : ℕ) (rows : List Row) (columns : List (ArrayVec ℕ)) (ts : List Entry) (k : Keeps len rows columns ts) where
   pub reaches_past : (e x : ℕ) → e < len → reaches rows e x ≡ past ts e x
   reaches_past e x l = same_from_decides _ _ (there, back) ((λ h. h), λ h. h)
     where
@@ -60,7 +60,7 @@ module _ (len : ℕ) (rows : List Row) (columns : List Column) (ts : List Entry)
       ap (listed (held_row rows)) (sym k.size)
       ∙ entries_held ts (held_row rows) (λ e l. let (ps, is) = k.placed e (omega (arith, k.size)) in (ps, is, λ x. reaches_past e x (omega (arith, k.size))))
 
-module _ (n len : ℕ) (rows : List Row) (columns : List Column) (kept : Kept len rows columns) where
+module _ (n len : ℕ) (rows : List Row) (columns : List (ArrayVec ℕ)) (kept : Kept len rows columns) where
   pub of_takes : OfTakes (rows_mean n len rows)
   of_takes = ∥∥₁_elim kept ∥∥₁_prop (λ (ts, k). ∣ (ts, entries_kept len rows columns ts k) ∣₁)
 

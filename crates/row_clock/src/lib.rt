@@ -2,8 +2,8 @@
 #![tactic(auto)]
 
 ghost use Rattle.std.specs.Prelude.{◌≡◌, ℕ, ◌+◌, ◌<◌, ◌≤◌, max, true, false, ◌∷◌, length, nat_lt, slice_index, slice_index_or};
-ghost use Rattle.causality.specs.Newest.{kth};
-ghost use Rattle.causality.specs.Entries.{is, newest};
+ghost use Rattle.arrayvec.specs.ArrayVec.{array_vec_len};
+ghost use Rattle.causality.specs.Entries.{is};
 ghost use Rattle.causality.specs.Limits.{max_nodes, is_node};
 ghost use Rattle.clock.specs.Meaning.{max_entries, blank, if_given};
 ghost use Rattle.row_clock.specs.Rows.{no_column, line, rows_mean, Kept, latest_of, cell_of, next_count, Filed};
@@ -27,40 +27,9 @@ pub struct RowClock {
     ghost kept: { Kept len rows columns },
 }
 
-impl Column {
-    fn last(&self) -> Option<u16>
-        ensures { result ≡ newest (line self.now) }
-    {
-        if self.len == 0 {
-            None
-        } else {
-            Some(self.entries[self.len as usize - 1])
-        }
-    }
-
-    fn kth(&self, k: u16) -> Option<u16>
-        ensures { result ≡ kth (line self.now) k }
-    {
-        let len = self.len;
-        if k < 1 || k > len {
-            None
-        } else {
-            Some(self.entries[k as usize - 1])
-        }
-    }
-
-    fn push(&mut self, e: u16)
-        requires { self.old.len < max_entries }
-        ensures { line self.new ≡ e ∷ line self.old }
-    {
-        self.entries[self.len as usize] = e;
-        self.len += 1;
-    }
-}
-
 /// Appends entry e to the column of node a, and to that of b.
 fn file(columns: &mut [Column; NODES], a: u16, b: Option<u16>, e: u16)
-    requires { (is_node max_nodes a ≡ true) × ((if_given (is_node max_nodes) b ≡ true) × ((is b a ≡ false) × (((i : ℕ) → i < max_nodes → (slice_index_or columns.old i no_column).len < max_entries)))) }
+    requires { (is_node max_nodes a ≡ true) × ((if_given (is_node max_nodes) b ≡ true) × ((is b a ≡ false) × (((i : ℕ) → i < max_nodes → array_vec_len (slice_index_or columns.old i no_column) < max_entries)))) }
     ensures filed { Filed columns.old a b e columns.new }
     ensures long { length columns.new ≡ length columns.old }
 {
@@ -78,10 +47,7 @@ impl RowClock {
     {
         self.nodes = n;
         self.len = 0;
-        self.columns = [Column {
-            len: 0,
-            entries: [0; ENTRIES],
-        }; NODES];
+        self.columns = array::from_fn(|_| Column::new());
     }
 
     /// The latest entry at node i.
@@ -89,7 +55,7 @@ impl RowClock {
         requires { if_given (is_node max_nodes) i ≡ true }
         ensures { result ≡ latest_of self.now.columns i }
     {
-        self.columns[i? as usize - 1].last()
+        self.columns[i? as usize - 1].last().copied()
     }
 
     /// The count of entry e at node i, 0 if no entry is given.
@@ -109,7 +75,7 @@ impl RowClock {
         ensures { result ≡ next_count self.now.rows self.now.columns entry.node entry.partner before.own before.other before.prior i }
     {
         if entry.stands(i) {
-            self.columns[i as usize - 1].len + 1
+            self.columns[i as usize - 1].len() as u16 + 1
         } else {
             self.cell(before.own, i)
                 .max(self.cell(before.other, i))
@@ -145,10 +111,7 @@ impl Clock for RowClock {
                 partner: None,
                 counts: [0; NODES],
             }; ENTRIES],
-            columns: [Column {
-                len: 0,
-                entries: [0; ENTRIES],
-            }; NODES],
+            columns: array::from_fn(|_| Column::new()),
         }
     }
 
@@ -190,10 +153,10 @@ impl Clock for RowClock {
     }
 
     fn at(&self, i: u16, k: u16) -> Option<u16> {
-        if is_node(self.nodes, i) {
-            self.columns[i as usize - 1].kth(k)
-        } else {
-            None
+        if !is_node(self.nodes, i) {
+            return None;
         }
+        let place = (k as usize).checked_sub(1)?;
+        self.columns[i as usize - 1].get(place).copied()
     }
 }

@@ -1,9 +1,10 @@
 //! What a row clock keeps of each entry, and of each node.
 
-ghost use Rattle.std.specs.Prelude.{◌≡◌, ◌≤◌, true, length, nat_lt};
+ghost use Rattle.std.specs.Prelude.{◌≡◌, true, length, nat_lt};
 ghost use Rattle.causality.specs.Limits.{max_nodes, is_node};
 ghost use Rattle.clock.specs.Meaning.{max_entries, if_given};
 
+use arrayvec::ArrayVec;
 use clock::{ENTRIES, NODES};
 
 /// An entry: its node, the second node of a meet, and how many entries of each node lie in its past.
@@ -17,13 +18,7 @@ pub struct Row {
 }
 
 /// A node: the numbers of its entries, from the oldest.
-#[derive(Clone, Copy)]
-pub struct Column {
-    pub len: u16,
-    pub entries: [u16; ENTRIES],
-    ghost long: { length entries ≡ max_entries },
-    ghost within: { len ≤ max_entries },
-}
+pub type Column = ArrayVec<u16, ENTRIES>;
 
 /// The immediate predecessors of an entry: the latest at its node, the latest at its partner, and the one that it follows by a
 /// message.

@@ -10,8 +10,8 @@ use Rattle.causality.proofs.Relations.{position-entry}
 use Rattle.causality.proofs.Indexes.{index_is_stamp}
 use Rattle.clock.specs.Meaning.{Meaning, counted}
 use Rattle.counting.specs.Counting.{or_zero, or_zeros, count_row}
-use Rattle.counting.proofs.Rows.{length-row}
-use Rattle.counting.proofs.Joint.{op, joint_rows, get_or-row}
+use Rattle.counting.proofs.Rows.{length-row, get_or-row}
+use Rattle.counting.proofs.Joint.{op, joint_rows}
 use Rattle.gathering.specs.declared.Row.{Row}
 use Rattle.gathering.specs.Gathering.{joined_all}
 use Rattle.history.specs.Answers.{row}

@@ -1,7 +1,7 @@
 -- The rows that are joined, as the clocks count them.
 --
 --   own_count μ v e i            the count of entry e, which is event v, at node i if it stands there, else 0: its index there
---   row_in μ view e              the row of member e: its counts, its own counts, or its counts numbered from the last
+--   row_from_last ρ total e      the counts of the entry that member e is when so many events are numbered from the last
 --   column_length μ ρ total i    how many events node i has: the reverse clock's first entry there, of which μ counts all before it
 --   from_column_end l c          one more than the length l, at most 65,535, less c; no column is that long
 use Rattle.std.specs.Prelude.{ℕ, ◌+◌, ◌-◌, min, cond, List, length, Some, None, Option, nat_lt, slice_index_or}
@@ -12,8 +12,6 @@ use Rattle.clock.specs.Meaning.{Meaning, counted, found}
 use Rattle.counting.specs.Counting.{or_zero, or_zeros, count_row}
 use Rattle.gathering.specs.declared.Row.{Row}
 use Rattle.history.specs.Answers.{row}
-use Rattle.summaries.specs.declared.rows.View.{View}
-use Rattle.summaries.specs.declared.rows.View.TheVariants.{Whole, Own, FromLast}
 
 abbrev pub own_count : Meaning → Event → ℕ → ℕ → ℕ
 own_count μ v e i = cond (at_either (node_of v) (partner_of v) i) (or_zero (counted μ e i)) 0
@@ -26,11 +24,6 @@ own_row_of μ es e = cond (nat_lt e (length es)) (own_row μ (slice_index_or es 
 
 abbrev pub row_from_last : Meaning → ℕ → ℕ → Row
 row_from_last ρ total e = count_row ρ (total - 1 - e)
-
-abbrev pub row_in : Meaning → View → ℕ → Row
-row_in μ Whole e = count_row μ e
-row_in μ (Own es) e = own_row_of μ es.now e
-row_in μ (FromLast total) e = row_from_last μ total e
 
 abbrev pub last_index : Meaning → ℕ → ℕ → Option ℕ → ℕ
 last_index μ total i None = 0

@@ -4,8 +4,10 @@
 mod members;
 mod rows;
 mod summary;
+mod trace;
 
 pub use members::Members;
 pub use members::methods::members_at;
 pub use rows::write_row;
 pub use summary::summarize;
+pub use trace::Trace;

@@ -2,32 +2,36 @@
 
 ghost use Rattle.summaries.specs.Members.{listed};
 ghost use Rattle.summaries.specs.Summed.{Summed};
-ghost use Rattle.std.specs.Prelude.{◌≡◌};
+ghost use Rattle.std.specs.Prelude.{◌≡◌, length};
 
 use crate::members::Members;
-use crate::rows::{View, bounds, from_end, lengths};
-use causality::Event;
+use crate::rows::{bounds, from_end, own_row_of};
+use crate::trace::Trace;
 use clock::Clock;
+use counting::row_of;
 use gathering::{Earliest, Greatest, Least};
 use records::Operation;
 
-/// The record of an operation with these members, in a trace of `total` events that both clocks took.
+/// The record of an operation with these members, in a trace that both clocks took.
 pub fn summarize<F: Clock, R: Clock>(
-    forward: &F,
-    reverse: &R,
-    events: &[Event],
-    total: u16,
+    trace: &Trace<'_, F, R>,
     name: u64,
     members: &Members,
 ) -> Operation
     ensures name { result.name ≡ name }
-    ensures summed { Summed (F.Clock.means forward.now) (R.Clock.means reverse.now) events.now total (listed members.now) result }
+    ensures summed { Summed (F.Clock.means trace.now.forward.now) (R.Clock.means trace.now.reverse.now) trace.now.events.now (length trace.now.events.now) (listed members.now) result }
 {
-    let held = &members.events[0..members.len as usize];
-    let (first, last) = bounds::<F, Earliest, Greatest>(forward, View::Own(events), held);
-    let (joint_past, whole_past) = bounds::<F, Least, Greatest>(forward, View::Whole, held);
-    let (least, greatest) = bounds::<R, Least, Greatest>(reverse, View::FromLast(total), held);
-    let ends = lengths(forward, reverse, total);
+    let held = &members.events[..members.len as usize];
+    let (first, last) = bounds::<Earliest, Greatest, _>(
+        held,
+        |e| own_row_of(trace.forward, trace.events, e),
+    );
+    let (joint_past, whole_past) = bounds::<Least, Greatest, _>(held, |e| row_of(trace.forward, e));
+    let (least, greatest) = bounds::<Least, Greatest, _>(
+        held,
+        |e| row_of(trace.reverse, trace.from_last(e)),
+    );
+    let ends = trace.lengths();
     Operation {
         name,
         len: members.len,

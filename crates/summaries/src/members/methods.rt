@@ -28,22 +28,11 @@ impl Members {
         ensures added { listed self.new ≡ with_member (listed self.old) (Some event) }
         ensures len { self.new.len ≤ self.old.len + 1 }
     {
-        if !holds(&self.events[0..self.len as usize], event) {
+        if !self.events[..self.len as usize].contains(&event) {
             self.events[self.len as usize] = event;
             self.len += 1;
         }
     }
-}
-
-fn holds(events: &[u16], event: u16) -> bool
-    ensures { result ≡ has (nat_eq event) events.now }
-{
-    for e in events {
-        if event == *e {
-            return true;
-        }
-    }
-    false
 }
 
 /// The events that a clock finds at the places, each once; none if a place has no event.

@@ -5,4 +5,4 @@ use Rattle.link_clock.specs.Links.{takes_of}
 use Rattle.link_clock.proofs.LinkClock.find.Given as goal
 
 abbrev pub invariant-loop-x : goal.invariant-loop-x
-invariant-loop-x l = (l.height ≡ length (timeline (takes_of l.self.links l.x) l.i)) × (l.height < l.k)
+invariant-loop-x l = (l.height ≡ length (timeline (takes_of l.self.links.items l.x) l.i)) × (l.height < l.k)

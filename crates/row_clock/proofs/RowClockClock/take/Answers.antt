@@ -6,7 +6,7 @@ use Rattle.clock.specs.Meaning.{Held, Meaning, max_entries, if_given, admits, ta
 use Rattle.clock.proofs.Arrays.{length-listed, given_up, Admitted, admitted}
 use Rattle.clock.proofs.Takes.{take_refused, take-accepted}
 use Rattle.row_clock.specs.declared.parts.Row.{Row}
-use Rattle.row_clock.specs.declared.parts.Column.{Column}
+use Rattle.arrayvec.specs.ArrayVec.{ArrayVec}
 use Rattle.row_clock.specs.declared.RowClock.{RowClock}
 use Rattle.row_clock.specs.Rows.{held_row, rows_mean, Kept, latest_of, next_count, Filed}
 use Rattle.row_clock.proofs.Rows.{latest_held, column-room, kept_more, entries-more}
@@ -29,7 +29,7 @@ module _ (s : RowClock) (a : ℕ) (b m : Option ℕ) (h : true ≡ admits s.node
   last i x g e = rw e (fits _ (latest_held s.nodes s.len s.rows s.columns s.within.1 s.kept i g))
 
   -- one more row
-  grown : (x y : Option ℕ) (row : Row) (columns : List Column) → x ≡ latest_of s.columns (Some a) → y ≡ latest_of s.columns b → row.node ≡ a → row.partner ≡ b →
+  grown : (x y : Option ℕ) (row : Row) (columns : List (ArrayVec ℕ)) → x ≡ latest_of s.columns (Some a) → y ≡ latest_of s.columns b → row.node ≡ a → row.partner ≡ b →
       ((i : ℕ) → i < max_nodes → get_or row.counts i 0 ≡ next_count s.rows s.columns a b x y m (i + 1)) → Filed s.columns a b s.len columns →
       Kept (s.len + 1) (set s.rows s.len row) columns
       × (rows_mean s.nodes (s.len + 1) (set s.rows s.len row) ≡ taken (rows_mean s.nodes s.len s.rows) a b m)

@@ -1,22 +1,13 @@
-use Rattle.std.proofs.Common.{◌≡◌, ℕ, ◌<◌, List, set, replicate, sym, ap, ◌∙◌, ap₂, add-one, arith}
-use Rattle.std.proofs.lemmas.List.{append-nil}
-use Rattle.counting.proofs.Rows.{row_more}
+use Rattle.std.proofs.Common.{ℕ, ◌+◌, List, ap, ◌∙◌, add-one, rules}
+use Rattle.counting.proofs.Rows.{row_is}
 use Rattle.gathering.specs.declared.Row.{Row}
-use Rattle.history.specs.Answers.{with_row}
+use Rattle.gathering.proofs.Made.{made_at}
 use Rattle.summaries.specs.Rows.{own_count}
 use Rattle.summaries.proofs.rows.own_row.Goals as goal
 
-pub loop-i-preserved : goal.loop-i-preserved
-loop-i-preserved g c =
-    let i = c.loop-i.i in
-    let old : List ℕ = replicate 16 0 in
-    let f : ℕ → ℕ = own_count (g.C.Clock.means c.args.clock.now) c.args.event c.args.e in
-    let low : i < 16 = omega arith in
-    ap₂ (λ (xs : List ℕ) (v : ℕ). set xs i v) c.loop-i.invariant (c.own_count.ensures ∙ ap f (add-one i)) ∙ row_more f i old low ∙ ap (λ (n : ℕ). with_row n f old) (sym (add-one i))
-
 pub returns : goal.returns
 returns g c =
-    let made : List ℕ → Row = λ xs. record { counts = xs } in
+    let made = c.from_fn.ensures.items in
+    let row : List ℕ → Row = λ xs. record { counts = xs } in
     let f : ℕ → ℕ = own_count (g.C.Clock.means c.args.clock.now) c.args.event c.args.e in
-    let end : c.loop-i.i ≡ 16 = omega arith in
-    ap made (c.loop-i.invariant ∙ ap (λ (n : ℕ). with_row n f (replicate 16 0)) end ∙ append-nil _)
+    ap row (row_is f 16 c.from_fn.result made.long (λ i l. made_at _ _ c.from_fn.result (λ k. f (k + 1)) 16 (λ k y q l called. search rules) made i 0 l ∙ ap f (add-one i)))

@@ -1,31 +1,46 @@
-use Rattle.std.proofs.Common.{◌≡◌, ℕ, ◌-◌, min, max, take, refl, ap, ◌∙◌, arith}
-use Rattle.gathering.specs.Gathering.{earliest}
+use Rattle.std.proofs.Common.{◌≡◌, ℕ, min, max, List, length, map, take, ap, ◌∙◌, arith, rules}
+use Rattle.gathering.specs.declared.Row.{Row}
+use Rattle.gathering.specs.Gathering.{earliest, joined_all}
 use Rattle.gathering.specs.Absent.{earliest_associative}
+use Rattle.gathering.proofs.Made.{made_map}
+use Rattle.counting.specs.Counting.{count_row, or_zeros}
+use Rattle.counting.proofs.Joint.{op}
+use Rattle.summaries.specs.Rows.{own_row_of, row_from_last}
 use Rattle.summaries.proofs.Indexes.{present-earliest, present-greatest}
 use Rattle.summaries.proofs.Summing.{at-past, at_future, at_own, at_end}
 use Rattle.summaries.proofs.summary.summarize.Goals as goal
 
-pub returns : goal.returns
-returns g c =
+least : (a b d : ℕ) → min (min a b) d ≡ min a (min b d)
+least a b d = omega arith
+
+most : (a b d : ℕ) → max (max a b) d ≡ max a (max b d)
+most a b d = omega arith
+
+-- rows that are joined, where each is what `of` makes of a member
+bound : (f : ℕ → ℕ → ℕ) (law : (x y z : ℕ) → f (f x y) z ≡ f x (f y z)) (of : ℕ → Row) (ms : List ℕ) (rows : List Row) (r : Row) → rows ≡ map of ms → r ≡ or_zeros (joined_all (op f law) rows) → r ≡ or_zeros (joined_all (op f law) (map of ms))
+bound f law of ms rows r is h = h ∙ ap (λ (rs : List Row). or_zeros (joined_all (op f law) rs)) is
+
+pub returns-clause-summed : goal.returns-clause-summed
+returns-clause-summed g c vs n x xs t members held =
     let m = c.args.members.now in
-    let es = c.args.events.now in
-    let total = c.args.total in
-    let μ = g.F.Clock.means c.args.forward.now in
-    let ρ = g.R.Clock.means c.args.reverse.now in
-    let whole : m.len - 0 ≡ m.len = omega arith in
+    let es = c.args.trace.now.events.now in
+    let total = length es in
+    let μ = g.F.Clock.means c.args.trace.now.forward.now in
+    let ρ = g.R.Clock.means c.args.trace.now.reverse.now in
+    let ms = take m.len m.events in
+    let (own, own_each, first, last) = c.bounds.ensures in
+    let (whole, whole_each, joint_past, whole_past) = c.bounds-2.ensures in
+    let (ahead, ahead_each, near, far) = c.bounds-3.ensures in
+    let own_is = made_map _ (own_row_of μ es) ms own own_each (λ x y h. search rules) in
+    let whole_is = made_map _ (count_row μ) ms whole whole_each (λ x y h. search rules) in
+    let ahead_is = made_map _ (row_from_last ρ total) ms ahead ahead_each (λ x y h. search rules) in
     record {
-      name = refl;
-      summed = λ vs n x xs t members held.
-          let ms : take (m.len - 0) m.events ≡ take m.len m.events = ap (λ (k : ℕ). take k m.events) whole in
-          let all = ms ∙ members in
-          record {
-            members = members;
-            held = held;
-            firsts = λ i node. at_own vs n μ ρ es total t x xs held i node earliest earliest_associative _ all c.bounds.result.0 min present-earliest c.bounds.ensures.one;
-            lasts = λ i node. at_own vs n μ ρ es total t x xs held i node max (λ a b d. omega arith) _ all c.bounds.result.1 max present-greatest c.bounds.ensures.other;
-            joint_pasts = λ i node. at-past vs n μ ρ es total t x xs held i node min (λ a b d. omega arith) _ all c.bounds-2.result.0 c.bounds-2.ensures.one;
-            whole_pasts = λ i node. at-past vs n μ ρ es total t x xs held i node max (λ a b d. omega arith) _ all c.bounds-2.result.1 c.bounds-2.ensures.other;
-            first_reaches = λ i node. at_end vs n μ ρ es total t x xs held i node c.lengths-ends.result c.bounds-3.result.1 c.from_end.result _ c.lengths-ends.ensures (at_future vs n μ ρ es total t x xs held i node max (λ a b d. omega arith) _ all c.bounds-3.result.1 c.bounds-3.ensures.other) c.from_end.ensures;
-            joint_reaches = λ i node. at_end vs n μ ρ es total t x xs held i node c.lengths-ends.result c.bounds-3.result.0 c.from_end-2.result _ c.lengths-ends.ensures (at_future vs n μ ρ es total t x xs held i node min (λ a b d. omega arith) _ all c.bounds-3.result.0 c.bounds-3.ensures.one) c.from_end-2.ensures;
-          };
+      members = members;
+      held = held;
+      firsts = λ i node. at_own vs n μ ρ es total t x xs held i node earliest earliest_associative ms members c.bounds.result.0 min present-earliest (bound earliest earliest_associative (own_row_of μ es) ms own _ own_is first);
+      lasts = λ i node. at_own vs n μ ρ es total t x xs held i node max most ms members c.bounds.result.1 max present-greatest (bound max most (own_row_of μ es) ms own _ own_is last);
+      joint_pasts = λ i node. at-past vs n μ ρ es total t x xs held i node min least ms members c.bounds-2.result.0 (bound min least (count_row μ) ms whole _ whole_is joint_past);
+      whole_pasts = λ i node. at-past vs n μ ρ es total t x xs held i node max most ms members c.bounds-2.result.1 (bound max most (count_row μ) ms whole _ whole_is whole_past);
+      first_reaches = λ i node. at_end vs n μ ρ es total t x xs held i node c.lengths-ends.result c.bounds-3.result.1 c.from_end.result _ c.lengths-ends.ensures (at_future vs n μ ρ es total t x xs held i node max most ms members c.bounds-3.result.1 (bound max most (row_from_last ρ total) ms ahead _ ahead_is far)) c.from_end.ensures;
+      joint_reaches = λ i node. at_end vs n μ ρ es total t x xs held i node c.lengths-ends.result c.bounds-3.result.0 c.from_end-2.result _ c.lengths-ends.ensures (at_future vs n μ ρ es total t x xs held i node min least ms members c.bounds-3.result.0 (bound min least (row_from_last ρ total) ms ahead _ ahead_is near)) c.from_end-2.ensures;
     }
