@@ -1,5 +1,7 @@
 -- How the number of lines goes on from one line to the next.
-use Rattle.std.proofs.Common.{◌≡◌, ℕ, ◌+◌, ◌≤◌, List, [], ◌∷◌, ◌++◌, length, refl, ap, ◌∙◌, arith}
+use Rattle.std.proofs.Common.{◌≡◌, ℕ, zero, suc, ◌+◌, ◌≤◌, cond, eqb, List, [], ◌∷◌, ◌++◌, length, get_or, refl, ap, ◌∙◌, arith}
+use Rattle.std.specs.List.{count_by}
+use Rattle.std.proofs.lemmas.List.Recursion.{is_sum_by}
 use Rattle.std.proofs.lemmas.Bool.Decides.{nat_tests}
 use Rattle.job_text.specs.Lines.{Cut, NoEnd, Uncut}
 use Rattle.job_text.specs.Texts.{ends, line_count, tail}
@@ -32,3 +34,15 @@ pub count_le : (x : List ℕ) → line_count x ≤ length x
 count_le [] = omega arith
 count_le (b ∷ []) = grind (arith, nat_tests)
 count_le (b ∷ d ∷ x) = let r = count_le (d ∷ x) in grind (arith, nat_tests)
+
+-- ---- the number of lines by the last byte
+
+pub ends-count : (x : List ℕ) → ends x ≡ count_by (λ b. eqb b 10) x
+ends-count x = is_sum_by ends (λ b. cond (eqb b 10) 1 0) refl (λ _ _. refl) x
+
+pub tail-last : (x : List ℕ) (k : ℕ) → length x ≡ k + 1 → tail x ≡ cond (eqb (get_or x k 0) 10) 0 1
+tail-last [] k long = absurd (omega arith)
+tail-last (b ∷ []) zero long = refl
+tail-last (b ∷ []) (suc k) long = absurd (omega arith)
+tail-last (b ∷ c ∷ x) zero long = absurd (omega arith)
+tail-last (b ∷ c ∷ x) (suc k) long = tail-last (c ∷ x) k (omega arith)
