@@ -1,5 +1,5 @@
 -- One write after another is one write.
-use Rattle.std.proofs.Common.{◌≡◌, ℕ, ◌+◌, ◌-◌, List, ◌++◌, take, drop, sym, ap, ◌∙◌, append_assoc, arith, length-append}
+use Rattle.std.proofs.Common.{◌≡◌, ℕ, ◌+◌, ◌-◌, List, ◌++◌, take, drop, sym, ap, ◌∙◌, subst, append_assoc, arith, length-append}
 use Rattle.std.proofs.lemmas.List.{drop-drop}
 use Rattle.answer_lines.specs.declared.Output.{Output}
 use Rattle.answer_lines.specs.Output.{Writes, Wrote}
@@ -17,3 +17,6 @@ wrote_then {a = a} {b = b} {i = i} {j = j} {k = k} x y p q =
 
 pub writes_then : {a b c : Output} (x y : List ℕ) → Writes a x b → Writes b y c → Writes a (x ++ y) c
 writes_then x y p q = record { same = q.same ∙ p.same; wrote = wrote_then x y p.wrote q.wrote }
+
+pub wrote_as : {a b x y : List ℕ} {i j : ℕ} → x ≡ y → Wrote a i x b j → Wrote a i y b j
+wrote_as {a = a} {b = b} {i = i} {j = j} e w = subst (λ z. Wrote a i z b j) e w

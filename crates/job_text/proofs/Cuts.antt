@@ -1,12 +1,11 @@
 -- A text is cut behind its first 0A, in one way only.
-use Rattle.std.proofs.Common.{◌≡◌, ℕ, ◌+◌, ◌-◌, ◌<◌, ◌≤◌, Option, Some, None, cond, eqb, ltb, List, [], ◌∷◌, ◌++◌, length, get_or, take, drop, Decides, sym, refl, ap, ◌∙◌, inl, inr, arith, length-append, length-drop, take-append-drop}
+use Rattle.std.proofs.Common.{◌≡◌, ℕ, ◌+◌, ◌-◌, ◌<◌, ◌≤◌, Option, Some, None, cond, eqb, ltb, List, [], ◌∷◌, ◌++◌, length, get_or, take, drop, Decides, sym, refl, ap, ◌∙◌, inl, inr, arith, length-append, length-drop}
 use Rattle.std.specs.List.{position_or_len}
-use Rattle.std.proofs.ByRecursion.{All-from_get_or}
-use Rattle.std.proofs.lemmas.List.{drop_all, drop-drop, drop_more, get_or-take, get_or-drop, length-take-le, take_rest}
+use Rattle.std.proofs.lemmas.List.{drop_all, get_or-drop, take_rest}
 use Rattle.std.proofs.lemmas.List.Sums.{fails_before_first, passes_at_first}
 use Rattle.std.proofs.lemmas.Bool.{both_ways, cases_lt, eq-eqb, eqb-true, lt-ltb, le-ltb}
 use Rattle.std.proofs.lemmas.Bool.Decides.{nat_tests}
-use Rattle.job_text.specs.Lines.{Clear, Cut, FirstEnd, NoEnd, Uncut}
+use Rattle.job_text.specs.Lines.{Clear, Cut, FirstEnd, NoEnd}
 use Rattle.line_parts.proofs.Reading.{same_run}
 
 -- ---- where `position` finds the first 0A of what stands from i on
@@ -50,24 +49,6 @@ module _ (t part : List ℕ) (i : ℕ) (within : i ≤ length t) (is : part ≡ 
   ]
 
 -- ---- cuts
-
-pub uncut_from : (t : List ℕ) (i : ℕ) → Clear t i (length t) → Uncut (drop i t) (drop i t)
-uncut_from t i h = record {
-  clear = All-from_get_or _ (drop i t) 0 (λ k lt e. h (i + k) (omega arith) (omega (arith, length-drop i t)) (sym (get_or-drop i t k 0) ∙ e));
-  is = refl;
-}
-
-pub cut-from : (t : List ℕ) (i j : ℕ) → FirstEnd t i j → Cut (drop i t) (take (j - i) (drop i t)) (drop (j + 1) t)
-cut-from t i j h =
-    let le = h.behind in
-    let lt = h.inside in
-    let long = length-take-le (j - i) (drop i t) (omega (arith, length-drop i t)) in
-    let on : i + (j - i) ≡ j = omega arith in
-    record {
-      clear = All-from_get_or _ (take (j - i) (drop i t)) 0 (λ k l e. h.first (i + k) (omega arith) (omega arith) (sym (get_or-take (j - i) (drop i t) k 0 (omega arith) ∙ get_or-drop i t k 0) ∙ e));
-      is = sym (take-append-drop (j - i) (drop i t))
-          ∙ ap (λ l. take (j - i) (drop i t) ++ l) (drop-drop (j - i) i t ∙ ap (λ n. drop n t) on ∙ drop_more t j 0 lt ∙ ap (λ b. b ∷ drop (j + 1) t) h.ends);
-    }
 
 pub cut_shorter : (s x t : List ℕ) → Cut s x t → length t < length s
 cut_shorter s x t h = omega (arith, ap length h.is, length-append x (10 ∷ t))

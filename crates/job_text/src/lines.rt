@@ -2,7 +2,7 @@
 
 ghost use Rattle.std.specs.Prelude.{◌≡◌, ◌≤◌, [], List, ℕ, length, drop, Decides, MatchOption};
 ghost use Rattle.std.specs.Iterator.{at_most};
-ghost use Rattle.job_text.specs.Lines.{Clear, Cut, FirstEnd, NextLine, Uncut};
+ghost use Rattle.job_text.specs.Lines.{Clear, FirstEnd, NextLine};
 
 use std::marker::Model;
 
@@ -39,7 +39,7 @@ impl<'a> Reader<'a> {
 
     /// The next line without its 0A; none if no 0A is left, and then nothing is read.
     pub fn next_line(&mut self) -> Option<&'a [u8]>
-        ensures { MatchOption result (Uncut self.old self.new) (λ x. Cut self.old x.now self.new) }
+        ensures { NextLine self.old result self.new }
     {
         let text = self.text;
         let from = self.pos;
