@@ -1,6 +1,7 @@
 -- What a writer does to its buffer, and the bytes of each line of an answer, as the format shows them.
 --
 --   Wrote ..          what was written stays, the bytes follow it, and what lies behind is as it was
+--   Writes old bs new   the same of an output, which is still the same memory
 --   refused_line      line=L refused=R
 --   refused_text      refused=R
 --   word o            the word of an order
@@ -8,6 +9,7 @@
 --   yes_or_no b       the word of a verdict
 --   verdict_line      line=L answer=V steps=S
 use Rattle.std.specs.Prelude.{◌≡◌, ℕ, ◌+◌, ◌≤◌, Bool, true, false, List, [], ◌∷◌, ◌++◌, length, take, drop, codes, decimal}
+use Rattle.answer_lines.specs.declared.Output.{Output}
 use Rattle.causality.specs.declared.CausalOrder.{CausalOrder}
 use Rattle.causality.specs.declared.CausalOrder.TheVariants.{Before, After, Same, Concurrent}
 
@@ -18,6 +20,11 @@ pub record Wrote (old : List ℕ) (at : ℕ) (bs : List ℕ) (new : List ℕ) (t
   pub long : length new ≡ length old
   pub front : take to new ≡ take at old ++ bs
   pub behind : drop to new ≡ drop to old
+
+-- an output writes `bs` behind what is written, to the same memory
+pub record Writes (old : Output) (bs : List ℕ) (new : Output) : Type 0 where
+  pub same : new.out.ghost_name ≡ old.out.ghost_name
+  pub wrote : Wrote old.out.now old.at bs new.out.now new.at
 
 -- line=L refused=R
 abbrev pub refused_line : ℕ → ℕ → List ℕ

@@ -1,5 +1,5 @@
 -- The sound lines that a text begins with: one more of them, the next of them, and where they end.
-use Rattle.std.proofs.Common.{◌≡◌, ℕ, ◌+◌, ◌<◌, List, [], ◌∷◌, ◌++◌, length, sym, refl, ap, ◌∙◌, append_assoc, arith, length-append}
+use Rattle.std.proofs.Common.{◌≡◌, ℕ, ◌+◌, List, [], ◌∷◌, ◌++◌, sym, refl, ap, ◌∙◌, append_assoc, arith, length-append}
 use Rattle.std.specs.List.{AllByRecursion}
 use Rattle.std.proofs.ByRecursion.{All-push}
 use Rattle.line_forms.specs.Forms.{Sound, written}
@@ -29,10 +29,6 @@ none-line {line = line} {next = next} cut none l more s e = none l s (same-cut l
 -- a tail without 0A
 pub none_tail : {rest : List ℕ} → NoEnd rest → NoLine rest
 none_tail {rest = rest} clear l more s e = no_cut rest (written l) more clear e
-
-pub some_byte : {x y : List ℕ} → Uncut x y → (y ≡ [] → ⊥) → 0 < length x
-some_byte {x = []} h some = absurd (some h.is)
-some_byte {x = b ∷ x} h some = omega arith
 
 -- The next line of a text that sound lines spell, for a caller that reads a checked text.
 

@@ -1,3 +1,2 @@
 pub mod Lines
-pub mod Readers
 pub mod Texts

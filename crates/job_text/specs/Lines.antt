@@ -1,5 +1,6 @@
 -- Where a line ends: at the byte 0A, which is 10. Stated by index where a line's end is looked for, and by list where a text is cut.
-use Rattle.std.specs.Prelude.{◌≡◌, ℕ, ◌<◌, ◌≤◌, List, ◌∷◌, ◌++◌, length, ◌≢◌, slice_index, slice_index_or}
+use Rattle.std.specs.Prelude.{◌≡◌, ℕ, ◌<◌, ◌≤◌, Option, MatchOption, List, ◌∷◌, ◌++◌, length, ◌≢◌, slice_index, slice_index_or}
+use Rattle.std.specs.Borrow.{Bor}
 use Rattle.std.specs.List.{AllByRecursion}
 
 -- no 0A stands from i up to j
@@ -26,3 +27,7 @@ pub record Cut (bs line rest : List ℕ) : Type 0 where
 pub record Uncut (bs rest : List ℕ) : Type 0 where
   pub clear : NoEnd bs
   pub is : rest ≡ bs
+
+-- what a call for the next line answers, of the bytes that were left and those that are: none where no 0A was left, and then nothing is read
+abbrev pub NextLine : List ℕ → Option (Bor (List ℕ)) → List ℕ → Type 0
+NextLine left line rest = MatchOption line (Uncut left rest) (λ x. Cut left x.now rest)

@@ -28,18 +28,18 @@ pub fn check_text(text: &[u8]) -> Result<u16, Fault>
     if text.len() > MAX_BYTES {
         return Err(Fault::TooLong);
     }
-    if count_lines(text) > MAX_LINES {
+    let lines = count_lines(text);
+    if lines > MAX_LINES {
         return Err(Fault::TooLong);
     }
-    let mut reader = Reader::new(text);
     let mut good: u16 = 0;
-    while let Some(line) = reader.next_line() {
+    for line in Reader::new(text) {
         let Some(_) = read_line(line) else {
             return Err(Fault::Malformed(good + 1));
         };
         good += 1;
     }
-    if reader.at_end() {
+    if usize::from(good) == lines {
         Ok(good)
     } else {
         Err(Fault::Malformed(good + 1))
@@ -55,10 +55,9 @@ pub fn one_verdict()
 fn count_lines(text: &[u8]) -> usize
     ensures { result ≡ line_count text.now }
 {
-    let mut reader = Reader::new(text);
-    let mut n = 0;
-    while let Some(_line) = reader.next_line() {
-        n += 1;
+    let ends = text.iter().filter(|b| **b == b'\n').count();
+    match text.last() {
+        Some(last) if *last != b'\n' => ends + 1,
+        _ => ends,
     }
-    if reader.at_end() { n } else { n + 1 }
 }

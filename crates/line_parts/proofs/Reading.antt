@@ -1,4 +1,4 @@
--- Numbers and places at the front of a list: there is at most one, and the loop over the digits finds it.
+-- Numbers and places at the front of a list: there is at most one, and the digits in front spell it.
 use Rattle.std.proofs.Common.{◌≡◌, ℕ, ◌<◌, ◌≤◌, Bool, false, not, cond, eqb, ltb, Decides, List, [], ◌∷◌, ◌++◌, Option, Some, None, Result, Ok, Err, MatchOption, MatchResult, length, get_or, take, drop, decimal, sym, refl, ap, ◌∙◌, inl, inr, subst, append_assoc, append-nil, one-add, arith, take-append-drop}
 use Rattle.causality.specs.declared.Place.{Place}
 use Rattle.std.specs.Result.{result_ok}
@@ -50,13 +50,6 @@ node_of {p = p} {rest = rest} h = record {
 
 pub index_of : {s : List ℕ} {p : Place} {rest : List ℕ} → PlaceAt s p rest → (t : List ℕ) → t ≡ decimal p.index ++ rest → NumberAt t p.index rest
 index_of h t e = record { sound = h.sound.1; spelt = e; stops = h.stops }
-
-pub place_here : {s mid t rest : List ℕ} (n m : ℕ) → NumberAt s n mid → mid ≡ 46 ∷ t → NumberAt t m rest → PlaceAt s (record { node = n; index = m }) rest
-place_here {rest = rest} n m a e b = record {
-  sound = (a.sound, b.sound);
-  spelt = a.spelt ∙ ap (λ l. decimal n ++ l) (e ∙ ap (λ l. 46 ∷ l) b.spelt) ∙ sym (append_assoc (decimal n) (46 ∷ decimal m) rest);
-  stops = b.stops;
-}
 
 -- a list begins with at most one place
 pub same_place : {s : List ℕ} {p q : Place} {a b : List ℕ} → PlaceAt s p a → PlaceAt s q b → (p ≡ q) × (a ≡ b)
@@ -164,10 +157,6 @@ module _ (C : ℕ → Type 0) (test : ℕ → Bool) (decides : (b : ℕ) → Dec
       let r = run_cut s in
       record { whole = take-append-drop n s; all = rw at r.0; stops = rw at r.1 }
 
--- ---- the number in front is what the digits in front spell
-
-pub number-here : {s ds rest : List ℕ} {n : ℕ} → Run Digit s ds rest → Small n × (ds ≡ decimal n) → NumberAt s n rest
-number-here {rest = rest} h v = record { sound = v.0; spelt = sym h.whole ∙ ap (λ l. l ++ rest) v.1; stops = h.stops }
-
+-- where the digits in front spell no number, no number stands in front
 pub no_number : {s ds rest : List ℕ} → Run Digit s ds rest → ((n : ℕ) → Small n → ds ≡ decimal n → ⊥) → (n : ℕ) (t : List ℕ) → NumberAt s n t → ⊥
 no_number {ds = ds} {rest = rest} h none n t k = none n k.sound (same_run Digit ds (decimal n) rest t h.all (all_digits n k.sound) h.stops k.stops (h.whole ∙ k.spelt)).0

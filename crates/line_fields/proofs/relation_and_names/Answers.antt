@@ -1,4 +1,4 @@
-use Rattle.std.proofs.Common.{◌++◌, codes, refl, ap, ◌∙◌}
+use Rattle.std.proofs.Common.{refl}
 use Rattle.line_parts.proofs.Naming.{name_space, same_name}
 use Rattle.line_fields.specs.Fields.{relation_word}
 use Rattle.line_fields.proofs.Words.{word_name}
@@ -7,14 +7,3 @@ use Rattle.line_fields.proofs.relation_and_names.Goals as goal
 pub returns-in_err-relation : goal.returns-in_err-relation
 returns-in_err-relation c = rw c.from_residual-in_err-relation.ensures (λ q x y nx ny e.
     c.in_err-relation.ensures q (same_name c.in_ok-word.ensures (name_space (relation_word q) _ refl (word_name q) e)).0)
-
-pub returns : goal.returns
-returns c =
-    let w = c.in_ok-word.ensures in
-    let n = c.in_ok-x.ensures in
-    let q = c.in_ok-relation.relation in (
-      n.0,
-      n.1,
-      w.spelt ∙ ap (λ l. l ++ c.in_ok-word.rest.now) c.in_ok-relation.ensures
-          ∙ ap (λ l. relation_word q ++ l) (c.in_ok-rest.ensures ∙ ap (λ l. codes " from=" ++ l) n.2),
-    )

@@ -3,4 +3,4 @@ use Rattle.job_text.proofs.Cuts.{read_all}
 use Rattle.job_text.proofs.lines.Reader.at_end.Goals as goal
 
 pub returns : goal.returns
-returns c = read_all _ _ (search rules)
+returns c = rw (← c.self.view_is) (read_all _ _ (search rules))
