@@ -10,7 +10,7 @@ use Rattle.history.specs.declared.Stage.{Stage}
 use Rattle.history.specs.History.{History, is_closed}
 use Rattle.history.specs.Calls.{Call, after}
 use Rattle.history.specs.Lawful.{Fits, Lawful}
-use Rattle.records.specs.declared.messages.Messages.{Messages}
+use Rattle.records.specs.declared.messages.Sent.{Sent}
 use Rattle.records.specs.Messages.{sent_of}
 use Rattle.feeding.specs.Posted.{posted, follower, fed_through}
 use Rattle.feeding.proofs.Backs.{fed_whole, all-reverse}
@@ -37,5 +37,5 @@ sound_closed ahead back back' t t' sound open-is now same fed-back =
           ∙ whole
           ∙ ap (λ (x : History). meaning x.nodes (cond (is_closed x.stage) (backward x.events) [])) (sym now);
       lawful = subst Lawful (sym now) kept;
-      posts = λ m. ap (λ (s : Messages). sent_of s m) same ∙ sound.posts m ∙ ap (λ (x : History). posted x.events m) (sym now);
+      posts = λ m. ap (λ (s : List Sent). sent_of s m) same ∙ sound.posts m ∙ ap (λ (x : History). posted x.events m) (sym now);
     }

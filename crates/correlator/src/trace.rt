@@ -22,5 +22,5 @@ pub struct Trace {
     pub sent: Messages,
     ghost long: { length events ≡ 512 },
     ghost within: { len ≤ 512 },
-    ghost fewer: { sent.len ≤ len },
+    ghost fewer: { length sent ≤ len },
 }

@@ -1,6 +1,6 @@
 //! Starting a trace, and adding events to it.
 
-ghost use Rattle.std.specs.Prelude.{◌≡◌, ℕ, ◌+◌, ◌-◌, ◌<◌, ◌≤◌, [], Some, None};
+ghost use Rattle.std.specs.Prelude.{◌≡◌, ℕ, ◌+◌, ◌-◌, ◌<◌, ◌≤◌, [], length, Some, None};
 ghost use Rattle.causality.specs.Traces.{sends};
 ghost use Rattle.correlator.specs.Trace.{noted, told, traced};
 ghost use Rattle.history.specs.Calls.{with_event};
@@ -16,7 +16,7 @@ impl Trace {
     /// No trace yet.
     pub fn new() -> Trace
         ensures idle { traced result ≡ idle }
-        ensures none { result.sent.len ≡ 0 }
+        ensures none { length result.sent ≡ 0 }
     {
         Trace {
             stage: Stage::Idle,
@@ -30,7 +30,7 @@ impl Trace {
     /// Drops everything and opens an empty trace of n nodes.
     pub fn start(&mut self, n: u16)
         ensures empty { told self.new ≡ record { stage = Stage.Open; nodes = n; events = [] } }
-        ensures none { self.new.sent.len ≡ 0 }
+        ensures none { length self.new.sent ≡ 0 }
     {
         self.stage = Stage::Open;
         self.nodes = n;
@@ -60,10 +60,10 @@ impl Trace {
 
 // Notes what an event of this number sends or receives.
 fn note(sent: &mut Messages, event: Event, number: u16)
-    requires room { sent.old.len < 512 }
+    requires room { length sent.old < 512 }
     requires fresh { (m : ℕ) → sends event ≡ Some m → sent_of sent.old m ≡ None }
     ensures sets { (m : ℕ) → sent_of sent.new m ≡ noted event number (sent_of sent.old) m }
-    ensures few { sent.new.len ≤ sent.old.len + 1 }
+    ensures few { length sent.new ≤ length sent.old + 1 }
 {
     match event {
         Event::Send(node, message) => sent.insert(Sent {
