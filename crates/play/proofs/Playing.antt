@@ -2,8 +2,9 @@
 use Rattle.std.proofs.Common.{◌≡◌, ℕ, ◌+◌, ◌*◌, ◌≤◌, List, [], ◌∷◌, ◌++◌, length, take, Option, Result, sym, refl, ap, ◌∙◌, subst, append_assoc, append-nil, add-zero, arith, length-append}
 use Rattle.std.specs.List.{AllByRecursion}
 use Rattle.std.proofs.lemmas.List.{nil_from_length}
-use Rattle.answer_lines.specs.Output.{Wrote}
-use Rattle.answer_lines.proofs.Writes.{wrote_then, wrote_as}
+use Rattle.answer_lines.specs.declared.Output.{Output}
+use Rattle.answer_lines.specs.Output.{Wrote, Writes}
+use Rattle.answer_lines.proofs.Writes.{writes_then}
 use Rattle.causality.specs.declared.CausalOrder.{CausalOrder}
 use Rattle.history.specs.declared.refusal.Refusal.{Refusal}
 use Rattle.history.specs.Calls.{next_history}
@@ -40,17 +41,23 @@ after_push h (m ∷ ls) l = after_push (next_history h (call_of m)) ls l
 wrote_none : (out : List ℕ) (at : ℕ) → at ≤ length out → Wrote out at [] out at
 wrote_none out at h = record { ends = omega arith; fits = h; long = refl; front = sym (append-nil (take at out)); behind = refl }
 
+pub writes_none : (o : Output) → o.at ≤ length o.out.now → Writes o [] o
+writes_none o h = record { same = refl; wrote = wrote_none o.out.now o.at h }
+
+writes_as : {o o' : Output} {x y : List ℕ} → x ≡ y → Writes o x o' → Writes o y o'
+writes_as {o = o} {o' = o'} e w = subst (λ z. Writes o z o') e w
+
 -- ---- a text, up to a line
 
--- the lines `done` were played, from the history h and the output `old`
-pub record Going (h : History) (done : List Line) (old : List ℕ) (at : ℕ) (new : List ℕ) (h' : History) : Type 0 where
+-- the lines `done` were played, from the history h and the output `start`
+pub record Going (h : History) (done : List Line) (start o : Output) (h' : History) : Type 0 where
   pub bytes : List ℕ
   pub plays : Plays h 1 done bytes
-  pub wrote : Wrote old 0 bytes new at
+  pub writes : Writes start bytes o
   pub after : h' ≡ history_after h done
 
 -- k lines of the text are done, and `left` is what is left of it
-pub record Playing (text : List ℕ) (n k : ℕ) (left : List ℕ) (h : History) (old : List ℕ) (at : ℕ) (new : List ℕ) (h' : History) : Type 0 where
+pub record Playing (text : List ℕ) (n k : ℕ) (left : List ℕ) (h : History) (start o : Output) (h' : History) : Type 0 where
   pub lawful : Lawful text n
   pub done : List Line
   pub todo : List Line
@@ -58,11 +65,11 @@ pub record Playing (text : List ℕ) (n k : ℕ) (left : List ℕ) (h : History)
   pub sound : AllByRecursion Sound todo
   pub count : length done ≡ k
   pub left_is : left ≡ spelt todo
-  pub room : at ≤ 32 * k
-  pub going : Going h done old at new h'
+  pub room : o.at ≤ 32 * k
+  pub going : Going h done start o h'
 
-pub begin : {text : List ℕ} {n : ℕ} {left : List ℕ} (h : History) (old : List ℕ) → Lawful text n → left ≡ text → Playing text n 0 left h old 0 old h
-begin h old lawful e = record {
+pub begin : {text : List ℕ} {n : ℕ} {left : List ℕ} (h : History) (start : Output) → start.at ≡ 0 → Lawful text n → left ≡ text → Playing text n 0 left h start start h
+begin h start zero lawful e = record {
   lawful = lawful;
   done = [];
   todo = lawful.all.lines;
@@ -71,13 +78,13 @@ begin h old lawful e = record {
   count = refl;
   left_is = e ∙ lawful.all.is ∙ append-nil (spelt lawful.all.lines);
   room = omega arith;
-  going = record { bytes = []; plays = refl; wrote = wrote_none old 0 (omega arith); after = refl };
+  going = record { bytes = []; plays = refl; writes = writes_none start (omega arith); after = refl };
 }
 
 -- no line is left
-pub done_all : {text left : List ℕ} {n k : ℕ} {h h' : History} {old new : List ℕ} {at : ℕ}
-    → (p : Playing text n k left h old at new h') → p.todo ≡ [] → 32 * n ≤ length old → Answered h text old at new h'
-done_all {n = n} {h = h} {h' = h'} p none room =
+pub done_all : {text left : List ℕ} {n k : ℕ} {h h' : History} {start o : Output}
+    → (p : Playing text n k left h start o h') → p.todo ≡ [] → start.at ≡ 0 → 32 * n ≤ length start.out.now → Answered h text start.out.now o.at o.out.now h'
+done_all {n = n} {h = h} {h' = h'} {start = start} {o = o} p none zero room =
     let lines = p.split ∙ ap (λ t. p.done ++ t) none ∙ append-nil p.done in
     let g = p.going in
     record {
@@ -86,14 +93,14 @@ done_all {n = n} {h = h} {h' = h'} p none room =
       room = room;
       bytes = g.bytes;
       plays = subst (λ ls. Plays h 1 ls g.bytes) (sym lines) g.plays;
-      wrote = g.wrote;
+      wrote = subst (λ (i : ℕ). Wrote start.out.now i g.bytes o.out.now o.at) zero g.writes.wrote;
       after = subst (λ ls. h' ≡ history_after h ls) (sym lines) g.after;
     }
 
 -- one line more
-pub one_more : {text left line left' : List ℕ} {n k : ℕ} {h h' h'' : History} {old new new' : List ℕ} {at to : ℕ} (call : Line)
-    → Playing text n k left h old at new h' → Cut left line left' → Sound call × (line ≡ written call) → to ≤ at + 32
-    → LinePlayed h' (k + 1) call new at new' to h'' → Playing text n (k + 1) left' h old to new' h''
+pub one_more : {text left line left' : List ℕ} {n k : ℕ} {h h' h'' : History} {start o o' : Output} (call : Line)
+    → Playing text n k left h start o h' → Cut left line left' → Sound call × (line ≡ written call) → o'.at ≤ o.at + 32
+    → LinePlayed h' (k + 1) call o o' h'' → Playing text n (k + 1) left' h start o' h''
 one_more {k = k} {h = h} call p cut read room l =
     let next = next-line p.todo p.sound p.left_is cut in
     let same : next.one ≡ call = unique next.one call next.sound.0 read.0 (sym next.line_is ∙ read.1) in
@@ -115,27 +122,27 @@ one_more {k = k} {h = h} call p cut read room l =
           record {
             bytes = g.bytes ++ report_bytes (1 + length p.done) l.report;
             plays = plays_push h 1 p.done g.bytes call l.report g.plays (subst (λ x. Reported x call l.report) g.after l.reported);
-            wrote = wrote_then g.bytes _ g.wrote (wrote_as (ap (λ n. report_bytes n l.report) number) l.wrote);
+            writes = writes_then g.bytes _ g.writes (writes_as (ap (λ n. report_bytes n l.report) number) l.writes);
             after = l.after ∙ ap (λ x. next_history x (call_of call)) g.after ∙ sym (after_push h p.done call);
           };
     }
 
 -- as many lines are done as there are
-pub none_left : {text left : List ℕ} {n k : ℕ} {h h' : History} {old new : List ℕ} {at : ℕ}
-    → (p : Playing text n k left h old at new h') → n ≤ k → p.todo ≡ []
+pub none_left : {text left : List ℕ} {n k : ℕ} {h h' : History} {start o : Output}
+    → (p : Playing text n k left h start o h') → n ≤ k → p.todo ≡ []
 none_left p le =
     let all = p.lawful.all.count in
     let counted = p.count in
     nil_from_length p.todo (omega (arith, ap length p.split, length-append p.done p.todo))
 
 -- no line is left to read
-pub no_more : {text left rest : List ℕ} {n k : ℕ} {h h' : History} {old new : List ℕ} {at : ℕ}
-    → (p : Playing text n k left h old at new h') → Uncut left rest → p.todo ≡ []
+pub no_more : {text left rest : List ℕ} {n k : ℕ} {h h' : History} {start o : Output}
+    → (p : Playing text n k left h start o h') → Uncut left rest → p.todo ≡ []
 no_more p end = no_next p.todo p.left_is end
 
 -- the next line is one that is read
-pub readable : {text left line left' : List ℕ} {n k : ℕ} {h h' : History} {old new : List ℕ} {at : ℕ}
-    → Playing text n k left h old at new h' → Cut left line left' → ((l : Line) → Sound l → line ≡ written l → ⊥) → ⊥
+pub readable : {text left line left' : List ℕ} {n k : ℕ} {h h' : History} {start o : Output}
+    → Playing text n k left h start o h' → Cut left line left' → ((l : Line) → Sound l → line ≡ written l → ⊥) → ⊥
 readable p cut none =
     let next = next-line p.todo p.sound p.left_is cut in
     none next.one next.sound.0 next.line_is

@@ -15,7 +15,8 @@
 --   refusal_bytes e         the line that tells of it
 --   Correlated ..           what `correlate` writes
 use Rattle.std.specs.Prelude.{◌≡◌, ℕ, ◌+◌, ◌*◌, ◌<◌, ◌≤◌, List, [], ◌∷◌, ◌++◌, length, Some, None, Ok, Err, Option, Result}
-use Rattle.answer_lines.specs.Output.{Wrote, order_line, refused_line, refused_text}
+use Rattle.answer_lines.specs.Output.{Wrote, Writes, order_line, refused_line, refused_text}
+use Rattle.answer_lines.specs.declared.Output.{Output}
 use Rattle.causality.specs.declared.CausalOrder.{CausalOrder}
 use Rattle.history.specs.declared.refusal.Refusal.{Refusal}
 use Rattle.history.specs.Calls.{next_history}
@@ -45,11 +46,11 @@ Plays h k [] bs = bs ≡ []
 Plays h k (l ∷ ls) bs =
     (r : Result (Option CausalOrder) Refusal) × (rest : List ℕ) × Reported h l r × (bs ≡ report_bytes k r ++ rest) × Plays (next_history h (call_of l)) (k + 1) ls rest
 
--- line k, found at the history h: its report is written from `at` up to `to`, and h' is the history that its call leaves
-pub record LinePlayed (h : History) (k : ℕ) (l : Line) (old : List ℕ) (at : ℕ) (new : List ℕ) (to : ℕ) (h' : History) : Type 0 where
+-- line k, found at the history h: its report is written behind what the output has, and h' is the history that its call leaves
+pub record LinePlayed (h : History) (k : ℕ) (l : Line) (old new : Output) (h' : History) : Type 0 where
   pub report : Result (Option CausalOrder) Refusal
   pub reported : Reported h l report
-  pub wrote : Wrote old at (report_bytes k report) new to
+  pub writes : Writes old (report_bytes k report) new
   pub after : h' ≡ next_history h (call_of l)
 
 -- ---- texts

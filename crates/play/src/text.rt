@@ -6,7 +6,7 @@ ghost use Rattle.correlator.specs.Told.{history};
 ghost use Rattle.play.specs.Plays.{Correlated, LinePlayed, Played, number_of, refusal_bytes, unplayed};
 
 use crate::reports::answer;
-use answer_lines::{put_order, put_refused, put_refused_text};
+use answer_lines::Output;
 use clock::Clock;
 use correlator::Correlator;
 use job_text::{Fault, MAX_LINES, Reader, check_text};
@@ -64,7 +64,7 @@ pub fn play<F: Clock, R: Clock>(
         return Err(PlayRefusal::ShortOut);
     }
     let mut reader = Reader::new(text);
-    let mut at = 0;
+    let mut output = Output { out, at: 0 };
     for k in 0..lines {
         let Some(line) = reader.next_line() else {
             break;
@@ -72,27 +72,26 @@ pub fn play<F: Clock, R: Clock>(
         let Some(call) = read_line(line) else {
             break;
         };
-        at = play_line(c, call, k + 1, out, at);
+        play_line(c, call, k + 1, &mut output);
     }
-    Ok(at)
+    Ok(output.at)
 }
 
-// Makes the call of line k, and writes what is to be reported of it from `at` on; answers the place behind it.
+// Makes the call of line k, and writes what is to be reported of it.
 fn play_line<F: Clock, R: Clock>(
     c: &mut Correlator<F, R>,
     line: Line,
     k: u16,
-    out: &mut [u8],
-    at: usize,
-) -> usize
-    requires { at + 32 ≤ length out.old }
-    ensures room { result ≤ at + 32 }
-    ensures played { LinePlayed (history c.old) k line out.old at out.new result (history c.new) }
+    output: &mut Output<'_>,
+)
+    requires { output.old.at + 32 ≤ length output.old.out.now }
+    ensures room { output.new.at ≤ output.old.at + 32 }
+    ensures played { LinePlayed (history c.old) k line output.old output.new (history c.new) }
 {
     match answer(c, line) {
-        Ok(None) => at,
-        Ok(Some(order)) => put_order(out, at, k, order),
-        Err(refusal) => put_refused(out, at, k, u8::from(refusal)),
+        Ok(None) => {}
+        Ok(Some(order)) => output.put_order(k, order),
+        Err(refusal) => output.put_refused(k, u8::from(refusal)),
     }
 }
 
@@ -118,8 +117,10 @@ fn put_refusal(out: &mut [u8], refusal: PlayRefusal) -> usize
     ensures { Wrote out.old 0 (refusal_bytes refusal) out.new result }
 {
     let number = u8::from(refusal);
+    let mut output = Output { out, at: 0 };
     match refusal {
-        PlayRefusal::Malformed(line) => put_refused(out, 0, line, number),
-        PlayRefusal::TooLong | PlayRefusal::ShortOut => put_refused_text(out, 0, number),
+        PlayRefusal::Malformed(line) => output.put_refused(line, number),
+        PlayRefusal::TooLong | PlayRefusal::ShortOut => output.put_refused_text(number),
     }
+    output.at
 }
