@@ -97,6 +97,10 @@ done_all {n = n} {h = h} {h' = h'} {start = start} {o = o} p none zero room =
       after = subst (λ ls. h' ≡ history_after h ls) (sym lines) g.after;
     }
 
+-- the memory of the output is what the output has of it
+pub answered_as : {text old new : List ℕ} {h h' : History} (o : Output) → Answered h text old o.at o.out.now h' → new ≡ o.out.now → Answered h text old o.at new h'
+answered_as {text = text} {old = old} {h = h} {h' = h'} o a e = subst (λ xs. Answered h text old o.at xs h') (sym e) a
+
 -- one line more
 pub one_more : {text left line left' : List ℕ} {n k : ℕ} {h h' h'' : History} {start o o' : Output} (call : Line)
     → Playing text n k left h start o h' → Cut left line left' → Sound call × (line ≡ written call) → o'.at ≤ o.at + 32
