@@ -139,9 +139,6 @@ module _ (n len : ℕ) (rows : List Row) (columns : List (ArrayVec ℕ)) (small 
   line_held i h = ∥∥₁_elim kept (is_set ℕ_set _ _) (λ (ts, k).
       k.filed i (node_up n i small h) ∙ rw (entries_kept len rows columns ts k) (sym (held_timeline ts i)))
 
-  pub latest_held : (o : Option ℕ) → if_given (is_node max_nodes) o ≡ true → if_given (λ x. ltb x len) (latest_of columns o) ≡ true
-  latest_held o h = ∥∥₁_elim kept (Bool-set _ _) (λ (ts, k). latest-fits len rows columns ts k o h)
-
   pub column-room : (i : ℕ) → i < max_nodes → array_vec_len (get_or columns i no_column) ≤ len
   column-room i l =
       let back : i + 1 - 1 ≡ i = omega arith in

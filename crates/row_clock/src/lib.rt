@@ -27,15 +27,18 @@ pub struct RowClock {
     ghost kept: { Kept (array_vec_len rows) rows.items columns },
 }
 
-/// Appends entry e to the column of node a, and to that of b.
-fn file(columns: &mut [Column; NODES], a: u16, b: Option<u16>, e: u16)
-    requires { (is_node max_nodes a ≡ true) × ((if_given (is_node max_nodes) b ≡ true) × ((is b a ≡ false) × (((i : ℕ) → i < max_nodes → array_vec_len (slice_index_or columns.old i no_column) < max_entries)))) }
-    ensures filed { Filed columns.old a b e columns.new }
+/// Appends entry e to the columns of its nodes.
+fn file(columns: &mut [Column; NODES], entry: NewEntry, e: u16)
+    requires node { is_node max_nodes entry.node ≡ true }
+    requires partner { if_given (is_node max_nodes) entry.partner ≡ true }
+    requires apart { is entry.partner entry.node ≡ false }
+    requires room { (i : ℕ) → i < max_nodes → array_vec_len (slice_index_or columns.old i no_column) < max_entries }
+    ensures filed { Filed columns.old entry.node entry.partner e columns.new }
     ensures long { length columns.new ≡ length columns.old }
 {
-    columns[a as usize - 1].push(e);
-    if let Some(b) = b {
-        columns[b as usize - 1].push(e);
+    columns[entry.node as usize - 1].push(e);
+    if let Some(partner) = entry.partner {
+        columns[partner as usize - 1].push(e);
     }
 }
 
@@ -134,7 +137,7 @@ impl Clock for RowClock {
             prior: entry.prior,
         };
         let counts = self.next_counts(entry, before);
-        file(&mut self.columns, entry.node, entry.partner, e);
+        file(&mut self.columns, entry, e);
         self.rows.push(Row {
             node: entry.node,
             partner: entry.partner,

@@ -46,7 +46,7 @@ pub file-requires : goal.file-requires
 file-requires c =
     let s = c.args.self.now in
     let k = ok s c.args.entry.node c.args.entry.partner c.args.entry.prior (rw c.len-e.ensures at c.if-not-admits.ensures) in
-    (k.node, (k.partner, (k.apart, λ i l. omega (arith, column-room s.nodes (length s.rows.items) s.rows.items s.columns s.within.1 s.kept i l, k.room))))
+    record { node = k.node; partner = k.partner; apart = k.apart; room = λ i l. omega (arith, column-room s.nodes (length s.rows.items) s.rows.items s.columns s.within.1 s.kept i l, k.room) }
 
 pub invariant_of-self : goal.invariant_of-self
 invariant_of-self c =
