@@ -1,6 +1,5 @@
 -- The first elements of an array, and what an accepted take comes to.
-use Rattle.std.proofs.Common.{◌≡◌, ℕ, zero, suc, ◌<◌, ◌≤◌, Bool, true, false, not, ltb, ◌≢◌, List, ◌∷◌, length, get_or, set, Some, None, Option, refl, ap, arith}
-use Rattle.std.proofs.lemmas.List.{get_or-set_same, get_or-set_other}
+use Rattle.std.proofs.Common.{◌≡◌, ℕ, zero, suc, ◌<◌, ◌≤◌, Bool, true, false, not, ltb, length, Some, None, Option, refl, ap, arith}
 use Rattle.std.proofs.lemmas.Bool.{and_parts, and_from, not-true, ltb-true, leb-true, le-leb}
 use Rattle.causality.specs.Entries.{is}
 use Rattle.causality.specs.Limits.{max_nodes, is_node}
@@ -17,12 +16,6 @@ module _ {X : Type 0} (f : ℕ → X) where
   pub listed_like : (g : ℕ → X) (k : ℕ) → ((e : ℕ) → e < k → f e ≡ g e) → listed f k ≡ listed g k
   listed_like g zero h = refl
   listed_like g (suc k) h = rw (h k (omega arith), listed_like g k (λ e l. h e (omega arith)))
-
--- an array with x written behind its first k elements
-pub listed-set : {X Y : Type 0} (f : X → Y) (xs : List X) (d x : X) (k : ℕ) → k < length xs →
-    listed (λ e. f (get_or (set xs k x) e d)) (suc k) ≡ f x ∷ listed (λ e. f (get_or xs e d)) k
-listed-set f xs d x k l =
-    rw (get_or-set_same xs k x d l, listed_like (λ e. f (get_or (set xs k x) e d)) (λ e. f (get_or xs e d)) k (λ e h. let ne : e ≢ k = omega arith in ap f (get_or-set_other xs k e x d ne)))
 
 -- ---- what an accepted take comes to
 

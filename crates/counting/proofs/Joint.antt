@@ -1,13 +1,11 @@
 -- Rows joined number by number, at one node.
-use Rattle.std.proofs.Common.{◌≡◌, ℕ, zero, suc, ◌<◌, List, [], ◌∷◌, ◌++◌, map, length, get_or, fold, Option, sym, refl, ap, ◌∙◌, inl, inr, arith}
-use Rattle.std.proofs.lemmas.Bool.{cases_eq}
+use Rattle.std.proofs.Common.{◌≡◌, ℕ, suc, ◌<◌, List, [], ◌∷◌, map, length, get_or, fold, Option, refl, ap, ◌∙◌, arith}
 use Rattle.causality.specs.Relations.{joined}
 use Rattle.clock.specs.Meaning.{Meaning, counted}
 use Rattle.gathering.specs.declared.Row.{Row}
 use Rattle.gathering.specs.Gathering.{joined_all, zipped}
 use Rattle.gathering.proofs.Folds.{folded_out}
 use Rattle.gathering.specs.Zips.{zipped_assoc, length-zipped, get_or-zipped}
-use Rattle.history.specs.Answers.{row}
 use Rattle.counting.specs.Counting.{or_zero, or_zeros, count_row, Joint, JointRow}
 use Rattle.counting.proofs.Rows.{length-row, get_or-row}
 

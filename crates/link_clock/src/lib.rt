@@ -32,15 +32,16 @@ pub struct LinkClock {
     ghost kept: { Kept (array_vec_len links) links.items latest },
 }
 
-/// Entry e is now the latest at node a, and at b.
-fn note(latest: &mut [Option<u16>; NODES], a: u16, b: Option<u16>, e: u16)
-    requires { (is_node max_nodes a ≡ true) × (if_given (is_node max_nodes) b ≡ true) }
-    ensures noted { Noted latest.old a b e latest.new }
+/// Entry e is now the latest at its nodes.
+fn note(latest: &mut [Option<u16>; NODES], entry: NewEntry, e: u16)
+    requires node { is_node max_nodes entry.node ≡ true }
+    requires partner { if_given (is_node max_nodes) entry.partner ≡ true }
+    ensures noted { Noted latest.old entry.node entry.partner e latest.new }
     ensures long { length latest.new ≡ length latest.old }
 {
-    latest[a as usize - 1] = Some(e);
-    if let Some(b) = b {
-        latest[b as usize - 1] = Some(e);
+    latest[entry.node as usize - 1] = Some(e);
+    if let Some(partner) = entry.partner {
+        latest[partner as usize - 1] = Some(e);
     }
 }
 
@@ -169,7 +170,7 @@ impl Clock for LinkClock {
         }
         let own = self.latest_at(Some(entry.node));
         let other = self.latest_at(entry.partner);
-        note(&mut self.latest, entry.node, entry.partner, e);
+        note(&mut self.latest, entry, e);
         self.links.push(Link { entry, own, other });
         Some(e)
     }

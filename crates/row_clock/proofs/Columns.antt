@@ -1,5 +1,5 @@
--- Reading a column: its newest entry, and its k-th.
-use Rattle.std.proofs.Common.{◌≡◌, ℕ, zero, suc, ◌-◌, ◌++◌, ap, ap₂, add-one, length-append, ◌<◌, ◌≤◌, true, false, set, eqb, length-set, ◌≢◌, cond, ltb, List, [], ◌∷◌, length, get_or, slice_get, Some, None, Option, Bor, sym, refl, ◌∙◌, inl, inr, arith}
+-- Reading a column, and columns with one more entry.
+use Rattle.std.proofs.Common.{◌≡◌, ℕ, zero, suc, ◌-◌, ◌++◌, ap, ap₂, add-one, length-append, ◌<◌, ◌≤◌, true, false, set, eqb, length-set, ◌≢◌, cond, ltb, List, [], ◌∷◌, length, get_or, slice_get, Some, None, Option, Bor, sym, ◌∙◌, inl, inr, arith}
 use Rattle.std.specs.Option.{option_copied}
 use Rattle.std.specs.Slice.{IsItemAt}
 use Rattle.std.proofs.lemmas.Bool.{cases_eq, cases_lt, cases_Bool, eq-eqb, eqb-true, eqb-false, ne_eqb}
@@ -7,7 +7,7 @@ use Rattle.std.proofs.lemmas.Option.{slice_get-get_or, slice_get_past}
 use Rattle.std.proofs.lemmas.Bool.Decides.{nat_tests}
 use Rattle.causality.specs.Newest.{entry, kth}
 use mathlib.Core.Bool.{or-false}
-use Rattle.causality.specs.Entries.{newest, at_either}
+use Rattle.causality.specs.Entries.{at_either}
 use Rattle.clock.specs.Arrays.{listed}
 use Rattle.clock.proofs.Arrays.{length-listed, listed_like}
 use Rattle.arrayvec.specs.ArrayVec.{ArrayVec}
@@ -18,10 +18,6 @@ use Rattle.std.proofs.Math.Seq.{get_or-append_seam}
 use Rattle.std.proofs.lemmas.List.{get_or_append_left, get_or-set_same, get_or-set_other}
 
 module _ (f : ℕ → ℕ) where
-  pub newest-listed : (h : ℕ) → (h ≡ 0 → ⊥) → Some (f (h - 1)) ≡ newest (listed f h)
-  newest-listed zero ne = absurd (ne refl)
-  newest-listed (suc h) ne = let k : suc h - 1 ≡ h = omega arith in rw k
-
   entry_listed : (h n : ℕ) → entry (listed f h) n ≡ cond (ltb n h) (Some (f n)) None
   entry_listed zero n = grind (arith, nat_tests)
   entry_listed (suc h) n =
@@ -34,11 +30,7 @@ module _ (f : ℕ → ℕ) where
   pub kth-past : (h k : ℕ) → (1 ≤ k → h < k) → None ≡ kth (listed f h) k
   kth-past h k out = let it = entry_listed h (k - 1) in grind (arith, nat_tests, it)
 
--- what stands last, and in place k, in a list that is read from its end
-pub last_is : (xs : List ℕ) → slice_get xs (length xs - 1) ≡ newest (listed (λ k. get_or xs k 0) (length xs))
-last_is [] = refl
-last_is (x ∷ xs) = slice_get-get_or (x ∷ xs) (length (x ∷ xs) - 1) 0 (omega arith) ∙ newest-listed (λ k. get_or (x ∷ xs) k 0) (length (x ∷ xs)) (λ e. omega arith)
-
+-- what stands in place k, in a list that is read from its end
 pub kth_is : (xs : List ℕ) (k : ℕ) → 1 ≤ k → slice_get xs (k - 1) ≡ kth (listed (λ k. get_or xs k 0) (length xs)) k
 kth_is xs k l =
     elim (cases_lt (k - 1) (length xs)) [
@@ -70,17 +62,14 @@ filed_at columns x a e node long grown i h =
     ]
 
 module _ (columns : List (ArrayVec ℕ)) (x : ArrayVec ℕ) (a e : ℕ) (node : is_node max_nodes a ≡ true) (long : length columns ≡ max_nodes) (grown : line x ≡ e ∷ line_of columns a) where
-  filed_one : (i : ℕ) → is_node max_nodes i ≡ true → line_of (set columns (a - 1) x) i ≡ cond (eqb a i) (e ∷ line_of columns i) (line_of columns i)
-  filed_one = filed_at columns x a e node long grown
-
   pub filed_alone : (b : Option ℕ) → b ≡ None → (i : ℕ) → is_node max_nodes i ≡ true → line_of (set columns (a - 1) x) i ≡ cond (at_either a b i) (e ∷ line_of columns i) (line_of columns i)
-  filed_alone b none i h = rw (none, or-false (eqb a i)) (filed_one i h)
+  filed_alone b none i h = rw (none, or-false (eqb a i)) (filed_at columns x a e node long grown i h)
 
   pub filed_two : (y : ArrayVec ℕ) (b : ℕ) (o : Option ℕ) → o ≡ Some b → is_node max_nodes b ≡ true → eqb b a ≡ false → line y ≡ e ∷ line_of (set columns (a - 1) x) b →
       (i : ℕ) → is_node max_nodes i ≡ true → line_of (set (set columns (a - 1) x) (b - 1) y) i ≡ cond (at_either a o i) (e ∷ line_of columns i) (line_of columns i)
   filed_two y b o some there apart grown_b i h =
       let other = filed_one' i h in
-      let one = filed_one i h in
+      let one = filed_at columns x a e node long grown i h in
       rw some (elim (cases_Bool (eqb b i)) [
         | inl s ↦
             let away : eqb a i ≡ false = ne_eqb a i (λ f. eqb-false b a apart (eqb-true b i s ∙ sym f)) in

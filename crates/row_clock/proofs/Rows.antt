@@ -1,12 +1,13 @@
 -- Rows and columns of a list of takes mean that takes, and so do those with one more entry.
-use Rattle.std.proofs.Common.{◌≡◌, ℕ, suc, ◌+◌, ◌-◌, ◌<◌, ◌≤◌, max, true, cond, ◌&&◌, ltb, ◌≢◌, List, [], ◌∷◌, ◌++◌, length, get_or, set, Some, None, Option, sym, refl, ap, ◌∙◌, subst, ap₂, inl, inr, add-one, arith, below_more}
+use Rattle.std.proofs.Common.{◌≡◌, ℕ, suc, ◌+◌, ◌-◌, ◌<◌, ◌≤◌, max, true, cond, ◌&&◌, ltb, List, [], ◌∷◌, ◌++◌, length, get_or, Some, None, Option, sym, refl, ap, ◌∙◌, subst, ap₂, inl, inr, add-one, arith, below_more}
 use mathlib.Core.List.{is_set}
 use mathlib.Core.Bool.{Bool-set}
 use mathlib.Core.Logic.{∥∥₁_elim, ∥∥₁_prop}
 use native.Mathlib.Bridge.{le_prop}
 use native.Mathlib.Nat.{ℕ_set}
 use Rattle.std.specs.Option.{option_to_list}
-use Rattle.std.proofs.lemmas.List.{get_or-set_same, get_or-set_other}
+use Rattle.std.proofs.lemmas.List.{get_or_append_left}
+use Rattle.std.proofs.Math.Seq.{get_or-append_seam}
 use Rattle.std.proofs.lemmas.Bool.{cases_Bool, and_from, and_parts, le-leb, ltb-true}
 use Rattle.arrayvec.specs.ArrayVec.{ArrayVec, array_vec_len}
 use Rattle.causality.specs.Newest.{entry, tally}
@@ -15,7 +16,7 @@ use Rattle.causality.proofs.Newest.{entry_head, entry-tail}
 use Rattle.causality.proofs.Pasts.{past-tail}
 use Rattle.causality.proofs.Counts.{stamps_grow}
 use Rattle.causality.specs.Limits.{max_nodes, is_node}
-use Rattle.clock.specs.Meaning.{Held, max_entries, held_at, within, next_past, appended, asked, if_given}
+use Rattle.clock.specs.Meaning.{Held, held_at, within, next_past, appended, asked, if_given}
 use Rattle.clock.specs.Arrays.{listed}
 use Rattle.clock.proofs.Arrays.{length-listed, listed_like, node_bounds, node_up, Admitted}
 use Rattle.clock.proofs.Takes.{held_timeline, tally-stamp, next_past-is, latest-low}
@@ -73,23 +74,29 @@ module _ (len : ℕ) (rows : List Row) (columns : List (ArrayVec ℕ)) (ts : Lis
 
 -- ---- one more entry
 
-module _ (len : ℕ) (rows : List Row) (columns columns' : List (ArrayVec ℕ)) (a : ℕ) (b m : Option ℕ) (row : Row) (tall : length rows ≡ max_entries) (ok : Admitted len a b m)
+module _ (len : ℕ) (rows : List Row) (columns columns' : List (ArrayVec ℕ)) (a : ℕ) (b m : Option ℕ) (row : Row) (all : length rows ≡ len) (ok : Admitted len a b m)
     (node : row.node ≡ a) (partner : row.partner ≡ b) (filed : Filed columns a b len columns')
     (counts : (i : ℕ) → i < max_nodes → get_or row.counts i 0 ≡ next_count rows columns a b (latest_of columns (Some a)) (latest_of columns b) m (i + 1)) where
-  keeps_more : (ts : List Entry) → Keeps len rows columns ts → Keeps (len + 1) (set rows len row) columns' (asked a b m ∷ ts)
+  abbrev more : List Row
+  more = rows ++ (row ∷ [])
+
+  new : get_or more len no_row ≡ row
+  new = ap (λ (n : ℕ). get_or more n no_row) (sym all) ∙ get_or-append_seam rows row [] no_row
+
+  old : (e : ℕ) → e < len → get_or more e no_row ≡ get_or rows e no_row
+  old e l = get_or_append_left rows (row ∷ []) no_row e (omega arith)
+
+  keeps_more : (ts : List Entry) → Keeps len rows columns ts → Keeps (len + 1) more columns' (asked a b m ∷ ts)
   keeps_more ts k =
       let t = asked a b m in
-      let new : get_or (set rows len row) len no_row ≡ row = get_or-set_same rows len row no_row (omega (arith, ok.room)) in
-      let old : (e : ℕ) → e < len → get_or (set rows len row) e no_row ≡ get_or rows e no_row =
-      λ e l. let ne : e ≢ len = omega arith in get_or-set_other rows len e row no_row ne in
       let Placed : ℕ → Row → Type 0 = λ e r. (priors : List ℕ) × (entry (t ∷ ts) e ≡ Some (record { node = r.node; partner = r.partner; priors = priors })) in
       let head : entry (t ∷ ts) len ≡ Some t = ap (entry (t ∷ ts)) (sym k.size) ∙ entry_head t ts in
       record {
         size = ap suc k.size ∙ sym (add-one len);
-        placed = below_more (λ e. Placed e (get_or (set rows len row) e no_row)) len
+        placed = below_more (λ e. Placed e (get_or more e no_row)) len
             (λ e l. let (ps, is) = k.placed e l in subst (Placed e) (sym (old e l)) (ps, entry-tail t ts e (omega (arith, k.size)) ∙ is))
             (subst (Placed len) (sym new) (option_to_list m, rw (node, partner) head));
-        stamped = λ e i l h. below_more (λ e. cell (set rows len row) e i ≡ stamp (t ∷ ts) e i) len
+        stamped = λ e i l h. below_more (λ e. cell more e i ≡ stamp (t ∷ ts) e i) len
             (λ e l. ap (λ (r : Row). get_or r.counts (i - 1) 0) (old e l) ∙ k.stamped e i l h ∙ sym ((stamps_grow t ts i).1 e (omega (arith, k.size))))
             (let (p, q) = node_bounds max_nodes i h in
             let back : i - 1 + 1 ≡ i = omega arith in
@@ -99,28 +106,26 @@ module _ (len : ℕ) (rows : List Row) (columns columns' : List (ArrayVec ℕ)) 
         filed = λ i h. filed i h ∙ ap₂ (λ (c : List ℕ) (n : ℕ). cond (at_either a b i) (n ∷ c) c) (k.filed i h) (sym k.size);
       }
 
-  pub kept_more : Kept len rows columns → Kept (len + 1) (set rows len row) columns'
+  pub kept_more : Kept len rows columns → Kept (len + 1) more columns'
   kept_more kept = ∥∥₁_elim kept ∥∥₁_prop (λ (ts, k). ∣ (asked a b m ∷ ts, keeps_more ts k) ∣₁)
 
-  pub entries-more : Kept len rows columns → listed (held_row (set rows len row)) (len + 1) ≡ appended (asked a b m) (listed (held_row rows) len)
+  pub entries-more : Kept len rows columns → listed (held_row more) (len + 1) ≡ appended (asked a b m) (listed (held_row rows) len)
   entries-more kept =
       let vs = listed (held_row rows) len in
-      let rows' = set rows len row in
-      let new = get_or-set_same rows len row no_row (omega (arith, ok.room)) in
+      let rows' = more in
       let past-new : (x : ℕ) → reaches rows' len x ≡ next_past (asked a b m) vs x = λ x. ∥∥₁_elim kept (Bool-set _ _) (λ (ts, k).
       reaches_past (len + 1) rows' columns' (asked a b m ∷ ts) (keeps_more ts k) len x (omega arith)
       ∙ ap (λ (e : ℕ). past (asked a b m ∷ ts) e x) (sym k.size) ∙ sym (next_past-is (asked a b m) ts x)
       ∙ ap (λ (vs : List Held). next_past (asked a b m) vs x) (sym (entries_kept len rows columns ts k))) in
-      let old : (e : ℕ) → e < len → held_row rows' e ≡ held_row rows e = λ e l.
-      let ne : e ≢ len = omega arith in
-      let same = get_or-set_other rows len e row no_row ne in
+      let held : (e : ℕ) → e < len → held_row rows' e ≡ held_row rows e = λ e l.
+      let same = old e l in
       let past-old : (x : ℕ) → reaches rows' e x ≡ reaches rows e x = λ x. ∥∥₁_elim kept (Bool-set _ _) (λ (ts, k).
       reaches_past (len + 1) rows' columns' (asked a b m ∷ ts) (keeps_more ts k) e x (omega arith)
       ∙ past-tail (asked a b m) ts e x (omega (arith, k.size)) ∙ sym (reaches_past len rows columns ts k e x l)) in
       λ i. record { node = (same i).node; partner = (same i).partner; past = λ x. past-old x i } in
       rw add-one (ap₂ (λ (v : Held) (vs : List Held). v ∷ vs)
       (λ i. record { node = (ap (λ (r : Row). r.node) new ∙ node) i; partner = (ap (λ (r : Row). r.partner) new ∙ partner) i; past = λ x. past-new x i })
-      (listed_like (held_row rows') (held_row rows) len old))
+      (listed_like (held_row rows') (held_row rows) len held))
 
 -- ---- what a clock answers
 
@@ -134,9 +139,6 @@ module _ (n len : ℕ) (rows : List Row) (columns : List (ArrayVec ℕ)) (small 
   line_held i h = ∥∥₁_elim kept (is_set ℕ_set _ _) (λ (ts, k).
       k.filed i (node_up n i small h) ∙ rw (entries_kept len rows columns ts k) (sym (held_timeline ts i)))
 
-  pub latest_held : (o : Option ℕ) → if_given (is_node max_nodes) o ≡ true → if_given (λ x. ltb x len) (latest_of columns o) ≡ true
-  latest_held o h = ∥∥₁_elim kept (Bool-set _ _) (λ (ts, k). latest-fits len rows columns ts k o h)
-
   pub column-room : (i : ℕ) → i < max_nodes → array_vec_len (get_or columns i no_column) ≤ len
   column-room i l =
       let back : i + 1 - 1 ≡ i = omega arith in
@@ -144,8 +146,8 @@ module _ (n len : ℕ) (rows : List Row) (columns : List (ArrayVec ℕ)) (small 
 
 -- ---- no entries
 
-pub kept-none : (rows : List Row) (columns : List (ArrayVec ℕ)) → ((i : ℕ) → i < max_nodes → (get_or columns i no_column).items ≡ []) → Kept 0 rows columns
-kept-none rows columns none = ∣ (
+pub kept-none : (rows : List Row) (columns : List (ArrayVec ℕ)) → rows ≡ [] → ((i : ℕ) → i < max_nodes → (get_or columns i no_column).items ≡ []) → Kept (length rows) rows columns
+kept-none rows columns empty none = rw empty (∣ (
   [],
   record {
     size = refl;
@@ -153,4 +155,4 @@ kept-none rows columns none = ∣ (
     stamped = λ e i l. absurd (omega arith);
     filed = λ i h. ap (λ (xs : List ℕ). listed (λ k. get_or xs k 0) (length xs)) (none (i - 1) (omega (arith, node_bounds max_nodes i h)));
   },
-) ∣₁
+) ∣₁)

@@ -11,6 +11,7 @@ ghost use Rattle.row_clock.specs.Laws.{rows_lawful};
 
 mod parts;
 
+use arrayvec::ArrayVec;
 use clock::{Clock, ENTRIES, MAX_NODES, NODES, NewEntry, admits, is_node, knows};
 use parts::{Column, Predecessors, Row};
 use std::array;
@@ -19,23 +20,25 @@ use std::array;
 #[derive(Drop)]
 pub struct RowClock {
     nodes: u16,
-    len: u16,
-    rows: [Row; ENTRIES],
+    rows: ArrayVec<Row, ENTRIES>,
     columns: [Column; NODES],
-    ghost long: { (length rows ≡ max_entries) × (length columns ≡ max_nodes) },
-    ghost within: { (len ≤ max_entries) × (nodes ≤ max_nodes) },
-    ghost kept: { Kept len rows columns },
+    ghost long: { length columns ≡ max_nodes },
+    ghost within: { (array_vec_len rows ≤ max_entries) × (nodes ≤ max_nodes) },
+    ghost kept: { Kept (array_vec_len rows) rows.items columns },
 }
 
-/// Appends entry e to the column of node a, and to that of b.
-fn file(columns: &mut [Column; NODES], a: u16, b: Option<u16>, e: u16)
-    requires { (is_node max_nodes a ≡ true) × ((if_given (is_node max_nodes) b ≡ true) × ((is b a ≡ false) × (((i : ℕ) → i < max_nodes → array_vec_len (slice_index_or columns.old i no_column) < max_entries)))) }
-    ensures filed { Filed columns.old a b e columns.new }
+/// Appends entry e to the columns of its nodes.
+fn file(columns: &mut [Column; NODES], entry: NewEntry, e: u16)
+    requires node { is_node max_nodes entry.node ≡ true }
+    requires partner { if_given (is_node max_nodes) entry.partner ≡ true }
+    requires apart { is entry.partner entry.node ≡ false }
+    requires room { (i : ℕ) → i < max_nodes → array_vec_len (slice_index_or columns.old i no_column) < max_entries }
+    ensures filed { Filed columns.old entry.node entry.partner e columns.new }
     ensures long { length columns.new ≡ length columns.old }
 {
-    columns[a as usize - 1].push(e);
-    if let Some(b) = b {
-        columns[b as usize - 1].push(e);
+    columns[entry.node as usize - 1].push(e);
+    if let Some(partner) = entry.partner {
+        columns[partner as usize - 1].push(e);
     }
 }
 
@@ -43,11 +46,18 @@ impl RowClock {
     /// Sets n nodes and no entries.
     fn clear(&mut self, n: u16)
         requires { is_node max_nodes n ≡ true }
-        ensures { rows_mean self.new.nodes self.new.len self.new.rows ≡ blank n }
+        ensures { rows_mean self.new.nodes (array_vec_len self.new.rows) self.new.rows.items ≡ blank n }
     {
         self.nodes = n;
-        self.len = 0;
+        self.rows.clear();
         self.columns = array::from_fn(|_| Column::new());
+    }
+
+    /// How many entries there are.
+    fn len(&self) -> u16
+        ensures { result ≡ array_vec_len self.now.rows }
+    {
+        self.rows.len() as u16
     }
 
     /// The latest entry at node i.
@@ -58,21 +68,19 @@ impl RowClock {
         self.columns[i? as usize - 1].last().copied()
     }
 
-    /// The count of entry e at node i, 0 if no entry is given.
+    /// The count of entry e at node i, 0 if there is none.
     fn cell(&self, e: Option<u16>, i: u16) -> u16
-        requires { (if_given (λ x. nat_lt x max_entries) e ≡ true) × (is_node max_nodes i ≡ true) }
-        ensures { result ≡ cell_of self.now.rows e i }
+        requires { is_node max_nodes i ≡ true }
+        ensures { result ≡ cell_of self.now.rows.items e i }
     {
-        match e {
-            Some(e) => self.rows[e as usize].counts[i as usize - 1],
-            None => 0,
-        }
+        let row = e.and_then(|e| self.rows.get(e as usize).copied());
+        row.map_or(0, |row| row.counts[i as usize - 1])
     }
 
     /// The count at node i of a new entry after its immediate predecessors.
     fn next_count(&self, entry: NewEntry, before: Predecessors, i: u16) -> u16
         requires { is_node max_nodes i ≡ true }
-        ensures { result ≡ next_count self.now.rows self.now.columns entry.node entry.partner before.own before.other before.prior i }
+        ensures { result ≡ next_count self.now.rows.items self.now.columns entry.node entry.partner before.own before.other before.prior i }
     {
         if entry.stands(i) {
             self.columns[i as usize - 1].len() as u16 + 1
@@ -85,32 +93,27 @@ impl RowClock {
 
     /// Its counts at all nodes.
     fn next_counts(&self, entry: NewEntry, before: Predecessors) -> [u16; NODES]
-        ensures { (i : ℕ) → i < max_nodes → slice_index result i ≡ next_count self.now.rows self.now.columns entry.node entry.partner before.own before.other before.prior (i + 1) }
+        ensures { (i : ℕ) → i < max_nodes → slice_index result i ≡ next_count self.now.rows.items self.now.columns entry.node entry.partner before.own before.other before.prior (i + 1) }
     {
         array::from_fn(|i| self.next_count(entry, before, i as u16 + 1))
     }
 }
 
 impl Clock for RowClock {
-    ghost means = { λ s. rows_mean s.nodes s.len s.rows };
+    ghost means = { λ s. rows_mean s.nodes (array_vec_len s.rows) s.rows.items };
 
-    ghost own = { λ s. (rows_lawful s.nodes s.len s.rows s.columns s.kept).own };
+    ghost own = { λ s. (rows_lawful s.nodes (array_vec_len s.rows) s.rows.items s.columns s.kept).own };
 
-    ghost through = { λ s. (rows_lawful s.nodes s.len s.rows s.columns s.kept).through };
+    ghost through = { λ s. (rows_lawful s.nodes (array_vec_len s.rows) s.rows.items s.columns s.kept).through };
 
-    ghost earliest = { λ s. (rows_lawful s.nodes s.len s.rows s.columns s.kept).earliest };
+    ghost earliest = { λ s. (rows_lawful s.nodes (array_vec_len s.rows) s.rows.items s.columns s.kept).earliest };
 
-    ghost no_higher = { λ s. (rows_lawful s.nodes s.len s.rows s.columns s.kept).no_higher };
+    ghost no_higher = { λ s. (rows_lawful s.nodes (array_vec_len s.rows) s.rows.items s.columns s.kept).no_higher };
 
     fn new() -> RowClock {
         RowClock {
             nodes: 1,
-            len: 0,
-            rows: [Row {
-                node: 1,
-                partner: None,
-                counts: [0; NODES],
-            }; ENTRIES],
+            rows: ArrayVec::new(),
             columns: array::from_fn(|_| Column::new()),
         }
     }
@@ -124,28 +127,27 @@ impl Clock for RowClock {
     }
 
     fn take(&mut self, entry: NewEntry) -> Option<u16> {
-        if !admits(self.nodes, self.len, entry) {
+        let e = self.len();
+        if !admits(self.nodes, e, entry) {
             return None;
         }
-        let e = self.len;
         let before = Predecessors {
             own: self.latest(Some(entry.node)),
             other: self.latest(entry.partner),
             prior: entry.prior,
         };
         let counts = self.next_counts(entry, before);
-        file(&mut self.columns, entry.node, entry.partner, e);
-        self.rows[e as usize] = Row {
+        file(&mut self.columns, entry, e);
+        self.rows.push(Row {
             node: entry.node,
             partner: entry.partner,
             counts,
-        };
-        self.len = e + 1;
+        });
         Some(e)
     }
 
     fn count(&self, e: u16, i: u16) -> Option<u16> {
-        if knows(self.nodes, self.len, e, i) {
+        if knows(self.nodes, self.len(), e, i) {
             Some(self.cell(Some(e), i))
         } else {
             None

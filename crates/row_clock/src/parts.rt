@@ -1,8 +1,7 @@
 //! What a row clock keeps of each entry, and of each node.
 
-ghost use Rattle.std.specs.Prelude.{◌≡◌, true, length, nat_lt};
+ghost use Rattle.std.specs.Prelude.{◌≡◌, true, length};
 ghost use Rattle.causality.specs.Limits.{max_nodes, is_node};
-ghost use Rattle.clock.specs.Meaning.{max_entries, if_given};
 
 use arrayvec::ArrayVec;
 use clock::{ENTRIES, NODES};
@@ -17,6 +16,16 @@ pub struct Row {
     ghost placed: { is_node max_nodes node ≡ true },
 }
 
+impl Default for Row {
+    fn default() -> Row {
+        Row {
+            node: 1,
+            partner: None,
+            counts: [0; NODES],
+        }
+    }
+}
+
 /// A node: the numbers of its entries, from the oldest.
 pub type Column = ArrayVec<u16, ENTRIES>;
 
@@ -27,5 +36,4 @@ pub struct Predecessors {
     pub own: Option<u16>,
     pub other: Option<u16>,
     pub prior: Option<u16>,
-    ghost held: { (if_given (λ e. nat_lt e max_entries) own ≡ true) × (if_given (λ e. nat_lt e max_entries) other ≡ true) × (if_given (λ e. nat_lt e max_entries) prior ≡ true) },
 }

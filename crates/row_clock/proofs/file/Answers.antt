@@ -10,25 +10,25 @@ use Rattle.row_clock.proofs.file.Goals as goal
 pub returns-in_default-clause-filed : goal.returns-in_default-clause-filed
 returns-in_default-clause-filed c =
     let columns = c.args.columns.now in
-    let a = c.args.a in
+    let a = c.args.entry.node in
     let long : length columns ≡ max_nodes = search rules in
-    let (low, high) = node_bounds max_nodes a c.requires.0 in
-    let pushed = line-push _ c.push.new.self c.args.e c.push.ensures.items ∙ ap (λ d. c.args.e ∷ line d) (get_or_default columns (a - 1) c.index-columns-a.result no_column (omega arith)) in
-    filed_alone columns c.push.new.self a c.args.e c.requires.0 long pushed c.args.b c.in_default.is
+    let (low, high) = node_bounds max_nodes a c.requires.node in
+    let pushed = line-push _ c.push.new.self c.args.e c.push.ensures.items ∙ ap (λ d. c.args.e ∷ line d) (get_or_default columns (a - 1) c.index-columns-entry.result no_column (omega arith)) in
+    filed_alone columns c.push.new.self a c.args.e c.requires.node long pushed c.args.entry.partner c.in_default.is
 
 pub returns-in-Some-clause-filed : goal.returns-in-Some-clause-filed
 returns-in-Some-clause-filed c =
     let columns = c.args.columns.now in
-    let a = c.args.a in
-    let b = c.in-Some.b in
+    let a = c.args.entry.node in
+    let b = c.in-Some.partner in
     let e = c.args.e in
     let is_some = c.in-Some.is in
     let long : length columns ≡ max_nodes = search rules in
-    let (low, high) = node_bounds max_nodes a c.requires.0 in
-    let there = rw is_some at c.requires.1.0 in
-    let apart = rw is_some at c.requires.1.1.0 in
+    let (low, high) = node_bounds max_nodes a c.requires.node in
+    let there = rw is_some at c.requires.partner in
+    let apart = rw is_some at c.requires.apart in
     let (low', high') = node_bounds max_nodes b there in
-    let pushed = line-push _ c.push.new.self e c.push.ensures.items ∙ ap (λ d. e ∷ line d) (get_or_default columns (a - 1) c.index-columns-a.result no_column (omega arith)) in
+    let pushed = line-push _ c.push.new.self e c.push.ensures.items ∙ ap (λ d. e ∷ line d) (get_or_default columns (a - 1) c.index-columns-entry.result no_column (omega arith)) in
     let pushed' = line-push _ c.push-in-Some.new.self e c.push-in-Some.ensures.items
-    ∙ ap (λ d. e ∷ line d) (get_or_default (set columns (a - 1) c.push.new.self) (b - 1) c.index-columns-b.result no_column (omega (arith, length-set columns (a - 1) c.push.new.self))) in
-    filed_two columns c.push.new.self a e c.requires.0 long pushed c.push-in-Some.new.self b c.args.b is_some there apart pushed'
+    ∙ ap (λ d. e ∷ line d) (get_or_default (set columns (a - 1) c.push.new.self) (b - 1) c.index-columns-partner.result no_column (omega (arith, length-set columns (a - 1) c.push.new.self))) in
+    filed_two columns c.push.new.self a e c.requires.node long pushed c.push-in-Some.new.self b c.args.entry.partner is_some there apart pushed'

@@ -7,4 +7,4 @@ use Rattle.row_clock.proofs.RowClock.clear.Goals as goal
 pub invariant_of-self : goal.invariant_of-self
 invariant_of-self c =
     let made = c.from_fn-self.ensures.items in
-    record { long = search rules; within = search rules; kept = kept-none _ _ (λ i l. let (p, q, called) = made.at i no_column l in search rules) }
+    record { long = search rules; within = search rules; kept = kept-none _ _ c.clear.ensures (λ i l. let (p, q, called) = made.at i no_column l in search rules) }

@@ -1,5 +1,5 @@
 -- The k-th entry of a node is the k-th of its column.
-use Rattle.std.proofs.Common.{◌≡◌, ℕ, ◌-◌, ◌≤◌, List, slice_get, sym, ap, ap₂, ◌∙◌, arith, rules}
+use Rattle.std.proofs.Common.{length, ◌≡◌, ℕ, ◌-◌, ◌≤◌, List, slice_get, sym, ap, ap₂, ◌∙◌, arith, rules}
 use Rattle.std.proofs.lemmas.List.{get_or_default}
 use Rattle.std.proofs.lemmas.Bool.{cond-true}
 use Rattle.causality.specs.Newest.{kth}
@@ -21,5 +21,5 @@ returns c =
     let column = get_or_default s.columns (c.args.i - 1) c.index-self-i.result no_column (omega (arith, s.long, s.within)) in
     got ∙ ap₂ slice_get (c.deref.ensures.0 ∙ ap (λ (d : ArrayVec ℕ). d.items) column) place
     ∙ kth_is _ c.args.k some
-    ∙ ap (λ (l : List ℕ). kth l c.args.k) (line_held s.nodes s.len s.rows s.columns s.within.1 s.kept c.args.i has)
+    ∙ ap (λ (l : List ℕ). kth l c.args.k) (line_held s.nodes (length s.rows.items) s.rows.items s.columns s.within.1 s.kept c.args.i has)
     ∙ sym (cond-true _ _ _ has)
