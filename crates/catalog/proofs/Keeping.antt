@@ -1,5 +1,5 @@
 -- The operations that a table keeps: none, and one more.
-use Rattle.std.proofs.Common.{◌≡◌, ℕ, ◌+◌, Bool, true, false, cond, eqb, List, [], ◌∷◌, take, Some, None, Option, sym, refl, ap, ◌∙◌, ap₂, inl, inr, add-one}
+use Rattle.std.proofs.Common.{◌≡◌, ℕ, ◌+◌, Bool, true, false, cond, eqb, List, [], ◌∷◌, length, Some, None, Option, sym, refl, ap, ◌∙◌, ap₂, inl, inr, add-one, arith}
 use mathlib.Core.Path.{fun_ext}
 use Rattle.std.specs.Option.{option_map}
 use Rattle.std.proofs.lemmas.Bool.{cases_Bool, and_parts, eqb-true, both_ways, false≢true}
@@ -7,20 +7,19 @@ use Rattle.history.specs.History.{no_operations, with_operation, is_name, same_n
 use Rattle.names.specs.Names.{packed}
 use Rattle.names.proofs.Order.{tells_same}
 use Rattle.records.specs.declared.operations.Operation.{Operation}
-use Rattle.records.specs.declared.operations.Operations.{Operations as Table}
 use Rattle.records.specs.Operations.{operation_of, member_list}
-use Rattle.table.specs.Lookups.{lookup}
 use Rattle.catalog.specs.Catalog.{kept_members, kept_operations}
 
-pub no_operation : (t : Table) → t.len ≡ 0 → (name : ℕ) → operation_of t name ≡ None
-no_operation t e name = ap (λ (n : ℕ). lookup (λ (o : Operation). o.name) (take n t.records) name) e
+pub no_operation : (t : List Operation) → length t ≡ 0 → (name : ℕ) → operation_of t name ≡ None
+no_operation [] e name = refl
+no_operation (o ∷ t) e name = absurd (omega arith)
 
 neither : (b : Bool) → cond {A = Option (List ℕ)} b None None ≡ None
 neither true = refl
 neither false = refl
 
 -- no operations are kept
-pub none_kept : (t : Table) → t.len ≡ 0 → kept_operations t ≡ no_operations
+pub none_kept : (t : List Operation) → length t ≡ 0 → kept_operations t ≡ no_operations
 none_kept t e =
     ap₂ (λ (n : ℕ) (f : List ℕ → Option (List ℕ)). record { count = n; members = f }) e
     (fun_ext (λ name. ap (λ (o : Option Operation). cond (is_name name) (option_map member_list o) None) (no_operation t e (packed name)) ∙ neither (is_name name)))
@@ -34,7 +33,7 @@ same_name-is (x ∷ xs) (y ∷ ys) e =
     ap₂ (λ (z : ℕ) (zs : List ℕ). z ∷ zs) (eqb-true x y h) (same_name-is xs ys t)
 
 -- one operation more is kept
-module _ (t t' : Table) (o : Operation) (name ms : List ℕ) (is : is_name name ≡ true) (key : o.name ≡ packed name) (members : member_list o ≡ ms)
+module _ (t t' : List Operation) (o : Operation) (name ms : List ℕ) (is : is_name name ≡ true) (key : o.name ≡ packed name) (members : member_list o ≡ ms)
     (sets : (k : ℕ) → operation_of t' k ≡ cond (eqb o.name k) (Some o) (operation_of t k)) where
   other-members : (other : List ℕ) → kept_members t' other ≡ cond (same_name name other) (Some ms) (kept_members t other)
   other-members other =
@@ -53,5 +52,5 @@ module _ (t t' : Table) (o : Operation) (name ms : List ℕ) (is : is_name name 
             ]
       ]
 
-  pub one_kept : t'.len ≡ t.len + 1 → kept_operations t' ≡ with_operation (kept_operations t) name ms
-  one_kept more = ap₂ (λ (n : ℕ) (f : List ℕ → Option (List ℕ)). record { count = n; members = f }) (more ∙ add-one t.len) (fun_ext other-members)
+  pub one_kept : length t' ≡ length t + 1 → kept_operations t' ≡ with_operation (kept_operations t) name ms
+  one_kept more = ap₂ (λ (n : ℕ) (f : List ℕ → Option (List ℕ)). record { count = n; members = f }) (more ∙ add-one (length t)) (fun_ext other-members)

@@ -1,7 +1,7 @@
 //! Operations by their names: looking one up, and whether one of a new name may be added.
 #![tactic(auto)]
 
-ghost use Rattle.std.specs.Prelude.{◌≡◌, ◌<◌, false, true, IfOk, Some, None, MatchOption, OnOk};
+ghost use Rattle.std.specs.Prelude.{◌≡◌, ◌<◌, length, false, true, IfOk, Some, None, MatchOption, OnOk};
 ghost use Rattle.catalog.specs.Catalog.{kept_members, new_tests};
 ghost use Rattle.history.specs.Answers.{reason};
 ghost use Rattle.history.specs.Calls.{first_that};
@@ -17,28 +17,19 @@ use records::{MAX_OPERATIONS, Operation, Operations};
 pub fn operation_named<'a>(table: &'a Operations, name: &[u8]) -> Option<&'a Operation>
     ensures { MatchOption result (kept_members table.now name.now ≡ None) (λ o. (is_name name.now ≡ true) × (operation_of table.now (packed name.now) ≡ Some o.now)) }
 {
-    match key_of(name) {
-        Some(key) => match table.get_ref(key) {
-            Some(operation) => Some(operation),
-            None => None,
-        },
-        None => None,
-    }
+    table.get_ref(key_of(name)?)
 }
 
 /// The packed name of an operation that may be added, or why it may not.
 pub fn check_new(table: &Operations, name: &[u8]) -> Result<u64, Refusal>
     ensures first { reason result ≡ first_that (new_tests table.now name.now) }
     ensures key { IfOk result (λ k. k ≡ packed name.now) }
-    ensures room { OnOk result (table.now.len < 32) }
+    ensures room { OnOk result (length table.now < 32) }
     ensures fresh { IfOk result (λ k. operation_of table.now k ≡ None) }
 {
-    let Some(key) = key_of(name) else {
-        return Err(Refusal::BadName);
-    };
-    match table.get_ref(key) {
-        Some(_) => return Err(Refusal::NameTaken),
-        None => {}
+    let key = key_of(name).ok_or(Refusal::BadName)?;
+    if table.get_ref(key).is_some() {
+        return Err(Refusal::NameTaken);
     }
     if table.count() >= MAX_OPERATIONS {
         return Err(Refusal::OperationsFull);

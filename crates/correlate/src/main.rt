@@ -32,12 +32,8 @@ fn read_text(input: &mut impl Read, text: &mut [u8]) -> io::Result<usize>
 
 // Whether the first argument asks for the link clock.
 fn on_links(rt: &HostRuntime) -> io::Result<bool> {
-    let mut args = env::args(rt)?;
-    let _program = args.next();
-    match args.next() {
-        Some(word) => Ok(word.as_str() == "link"),
-        None => Ok(false),
-    }
+    let word = env::args(rt)?.nth(1);
+    Ok(word.is_some_and(|word| word.as_str() == "link"))
 }
 
 fn main(rt: HostRuntime) -> io::Result<()> {
@@ -45,10 +41,10 @@ fn main(rt: HostRuntime) -> io::Result<()> {
     let len = read_text(&mut rt.stdin(), &mut text)?;
     let mut out = [0u8; MAX_OUTPUT];
     let end = if on_links(&rt)? {
-        correlate::<LinkClock, LinkClock>(&text[0..len], &mut out)
+        correlate::<LinkClock, LinkClock>(&text[..len], &mut out)
     } else {
-        correlate::<RowClock, RowClock>(&text[0..len], &mut out)
+        correlate::<RowClock, RowClock>(&text[..len], &mut out)
     };
     let mut output = rt.stdout();
-    output.write_all(&out[0..end])
+    output.write_all(&out[..end])
 }
