@@ -35,6 +35,12 @@ pub enum Event {
     Meet(u16, u16),
 }
 
+impl Default for Event {
+    fn default() -> Event {
+        Event::Local(0)
+    }
+}
+
 impl Event {
     /// The node of an event; of a meet, the first of its two.
     pub fn node(self) -> u16

@@ -1,5 +1,5 @@
 -- A trace that is closed: the reverse clock has taken its events from last to first.
-use Rattle.std.proofs.Common.{◌≡◌, ℕ, cond, List, [], length, take, sym, ap, ◌∙◌, subst, ap₂}
+use Rattle.std.proofs.Common.{◌≡◌, ℕ, cond, List, [], length, sym, ap, ◌∙◌, subst, ap₂}
 use mathlib.Core.List.{reverse-reverse}
 use Rattle.std.proofs.lemmas.List.{length-reverse}
 use Rattle.causality.specs.declared.Event.{Event}
@@ -19,7 +19,7 @@ use Rattle.correlator.specs.Trace.{traced}
 use Rattle.correlator.specs.Sound.{fed, Sound}
 
 pub sound_closed : (ahead back back' : Meaning) (t t' : Trace) → Sound ahead back t → t.stage ≡ Stage.Open → traced t' ≡ after (traced t) Call.close → t'.sent ≡ t.sent →
-    back' ≡ fed_through back (follower (sent_of t.sent) (length (take t.len t.events))) (take t.len t.events) → Sound ahead back' t'
+    back' ≡ fed_through back (follower (sent_of t.sent) (length t.events.items)) t.events.items → Sound ahead back' t'
 sound_closed ahead back back' t t' sound open-is now same fed-back =
     let h = traced t in
     let vs : List Event = h.events in
@@ -32,8 +32,8 @@ sound_closed ahead back back' t t' sound open-is now same fed-back =
       follows = sound.follows ∙ ap fed (sym now);
       returns =
           fed-back
-          ∙ ap₂ (λ (μ : Meaning) (n : ℕ). fed_through μ (follower held n) (take t.len t.events)) empty (sym (length-reverse (take t.len t.events)))
-          ∙ ap (fed_through (meaning t.nodes []) (follower held (length vs))) (sym (reverse-reverse (take t.len t.events)))
+          ∙ ap₂ (λ (μ : Meaning) (n : ℕ). fed_through μ (follower held n) t.events.items) empty (sym (length-reverse t.events.items))
+          ∙ ap (fed_through (meaning t.nodes []) (follower held (length vs))) (sym (reverse-reverse t.events.items))
           ∙ whole
           ∙ ap (λ (x : History). meaning x.nodes (cond (is_closed x.stage) (backward x.events) [])) (sym now);
       lawful = subst Lawful (sym now) kept;

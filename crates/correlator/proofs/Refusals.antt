@@ -1,7 +1,7 @@
 -- The refusals of the event calls, as a trace sees them and by its history.
-use Rattle.std.proofs.Common.{◌≡◌, ℕ, leb, List, length, take, Some, Option, ap, ◌∙◌, sym, inl, inr, arith}
+use Rattle.std.proofs.Common.{◌≡◌, ℕ, leb, List, length, Some, Option, ap, ◌∙◌, sym, inl, inr}
 use Rattle.std.proofs.lemmas.Bool.{cases_Bool}
-use Rattle.std.proofs.lemmas.List.{length-take-le, length-reverse}
+use Rattle.std.proofs.lemmas.List.{length-reverse}
 use Rattle.causality.specs.declared.Event.{Event}
 use Rattle.history.specs.History.{is_full, is_none}
 use Rattle.history.specs.Calls.{Call, first_that, refusal}
@@ -17,10 +17,10 @@ use Rattle.history.specs.declared.refusal.Refusal.{Refusal}
 use Rattle.correlator.specs.Told.{Told, history}
 use Rattle.correlator.specs.Trace.{told, traced, local_tests, send_tests, receive_tests, meet_tests}
 
-pub told-length : (t : Trace) → length (told t).events ≡ t.len
-told-length t = length-reverse (take t.len t.events) ∙ length-take-le t.len t.events (omega (arith, t.long, t.within))
+pub told-length : (t : Trace) → length (told t).events ≡ length t.events.items
+told-length t = length-reverse t.events.items
 
-full_is : (t : Trace) → is_full (told t).events ≡ leb 512 t.len
+full_is : (t : Trace) → is_full (told t).events ≡ leb 512 (length t.events.items)
 full_is t = ap (leb 512) (told-length t)
 
 -- the trace t was told `seen`

@@ -1,9 +1,9 @@
 -- What the fields of a trace tell, and the refusals of the event calls as it sees them.
 --
---   told t      what the fields of a trace tell: its events lie oldest first in an array
+--   told t      what the fields of a trace tell: its events lie oldest first
 --   traced t    the history that this is
 --   noted v n held   what a table that held some messages holds once it noted what v, the event of number n, sends or receives
-use Rattle.std.specs.Prelude.{ℕ, Bool, cond, not, ◌&&◌, List, [], ◌∷◌, reverse, take, Some, None, Option, ◌==◌, nat_le}
+use Rattle.std.specs.Prelude.{ℕ, Bool, cond, not, ◌&&◌, List, [], ◌∷◌, length, reverse, Some, None, Option, ◌==◌, nat_le}
 use Rattle.causality.specs.declared.Event.{Event}
 use Rattle.causality.specs.Entries.{is}
 use Rattle.causality.specs.Traces.{node_of, sends, receives}
@@ -18,7 +18,7 @@ use Rattle.correlator.specs.declared.trace.Trace.{Trace}
 use Rattle.correlator.specs.Told.{Told, history}
 
 abbrev pub told : Trace → Told
-told t = record { stage = t.stage; nodes = t.nodes; events = reverse (take t.len t.events) }
+told t = record { stage = t.stage; nodes = t.nodes; events = reverse t.events.items }
 
 abbrev pub traced : Trace → History
 traced t = history (told t)
@@ -33,19 +33,19 @@ noted v n held m =
 -- ---- refusals
 
 abbrev pub local_tests : Trace → ℕ → List (Bool × Refusal)
-local_tests t a = in_trace (traced t) (is_node t.nodes a) ((nat_le max_events t.len, Refusal.Full) ∷ [])
+local_tests t a = in_trace (traced t) (is_node t.nodes a) ((nat_le max_events (length t.events.items), Refusal.Full) ∷ [])
 
 abbrev pub meet_tests : Trace → ℕ → ℕ → List (Bool × Refusal)
 meet_tests t a b =
-    in_trace (traced t) (is_node t.nodes a && is_node t.nodes b) ((a == b, Refusal.SameNode) ∷ (nat_le max_events t.len, Refusal.Full) ∷ [])
+    in_trace (traced t) (is_node t.nodes a && is_node t.nodes b) ((a == b, Refusal.SameNode) ∷ (nat_le max_events (length t.events.items), Refusal.Full) ∷ [])
 
 abbrev pub send_tests : Trace → ℕ → ℕ → List (Bool × Refusal)
 send_tests t a m =
     in_trace (traced t) (is_node t.nodes a)
-    ((m == 0, Refusal.NoMessage) ∷ (not (is_none (sent_of t.sent m)), Refusal.SentBefore) ∷ (nat_le max_events t.len, Refusal.Full) ∷ [])
+    ((m == 0, Refusal.NoMessage) ∷ (not (is_none (sent_of t.sent m)), Refusal.SentBefore) ∷ (nat_le max_events (length t.events.items), Refusal.Full) ∷ [])
 
 abbrev pub receive_tests : Trace → ℕ → ℕ → List (Bool × Refusal)
 receive_tests t a m =
     in_trace (traced t) (is_node t.nodes a)
     ((m == 0, Refusal.NoMessage) ∷ (is_none (sent_of t.sent m), Refusal.NotSent) ∷ (is_received (sent_of t.sent m), Refusal.ReceivedBefore)
-    ∷ (is_by a (sent_of t.sent m), Refusal.SameNode) ∷ (nat_le max_events t.len, Refusal.Full) ∷ [])
+    ∷ (is_by a (sent_of t.sent m), Refusal.SameNode) ∷ (nat_le max_events (length t.events.items), Refusal.Full) ∷ [])

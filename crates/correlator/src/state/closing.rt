@@ -19,12 +19,7 @@ impl<F: Clock, R: Clock> Correlator<F, R> {
             Stage::Closed => return Err(Refusal::Closed),
             Stage::Open => {}
         }
-        let len = self.trace.len as usize;
-        feed_back(
-            &mut self.reverse,
-            &self.trace.events[..len],
-            &self.trace.sent,
-        );
+        feed_back(&mut self.reverse, &self.trace.events, &self.trace.sent);
         self.trace.stage = Stage::Closed;
         Ok(())
     }

@@ -78,7 +78,7 @@ impl<F: Clock, R: Clock> Correlator<F, R> {
         ensures place { result ≡ next_place (history self.old) (node_of event) }
     {
         let node = event.node();
-        let number = self.trace.len;
+        let number = self.trace.count();
         let entry = NewEntry {
             node,
             partner: event.partner(),

@@ -7,10 +7,9 @@ ghost use Rattle.history.specs.Answers.{reason};
 ghost use Rattle.history.specs.Calls.{first_that, in_trace};
 ghost use Rattle.history.specs.declared.refusal.Refusal.TheVariants.{Full};
 ghost use Rattle.records.specs.Messages.{sent_of};
-ghost use Rattle.std.specs.Prelude.{◌≡◌, [], ◌∷◌, IfOk, Some, nat_le};
+ghost use Rattle.std.specs.Prelude.{◌≡◌, [], ◌∷◌, IfOk, Some, length, nat_le};
 
 use super::Trace;
-use causality::MAX_EVENTS;
 use clock::is_node;
 use history::{Refusal, Stage};
 
@@ -32,9 +31,9 @@ impl Trace {
 
     // One more event may be held.
     fn check_room(&self) -> Result<(), Refusal>
-        ensures { reason result ≡ first_that ((nat_le max_events self.now.len, Full) ∷ []) }
+        ensures { reason result ≡ first_that ((nat_le max_events (length self.now.events.items), Full) ∷ []) }
     {
-        if self.len >= MAX_EVENTS {
+        if self.events.is_full() {
             return Err(Refusal::Full);
         }
         Ok(())

@@ -7,7 +7,8 @@ ghost use Rattle.history.specs.Calls.{with_event};
 ghost use Rattle.history.specs.History.{idle};
 ghost use Rattle.records.specs.Messages.{sent_of};
 
-use super::{EVENTS, Trace};
+use super::Trace;
+use arrayvec::ArrayVec;
 use causality::Event;
 use history::Stage;
 use records::{Messages, Sent};
@@ -21,8 +22,7 @@ impl Trace {
         Trace {
             stage: Stage::Idle,
             nodes: 1,
-            len: 0,
-            events: [Event::Local(0); EVENTS],
+            events: ArrayVec::new(),
             sent: Messages::new(),
         }
     }
@@ -34,27 +34,34 @@ impl Trace {
     {
         self.stage = Stage::Open;
         self.nodes = n;
-        self.len = 0;
+        self.events.clear();
         self.sent.clear();
+    }
+
+    /// How many events there are.
+    pub fn count(&self) -> u16
+        ensures { result ≡ length self.now.events.items }
+    {
+        self.events.len() as u16
     }
 
     /// The entry of an event in a clock that takes the events from the last to the first.
     pub fn from_last(&self, event: u16) -> u16
-        ensures { result ≡ self.now.len - 1 - event }
+        ensures { result ≡ length self.now.events.items - 1 - event }
     {
-        self.len.saturating_sub(1).saturating_sub(event)
+        self.count().saturating_sub(1).saturating_sub(event)
     }
 
     /// Puts an event behind the others, and notes what it sends or receives.
     pub fn push(&mut self, event: Event)
-        requires room { self.old.len < 512 }
+        requires room { length self.old.events.items < 512 }
         requires fresh { (m : ℕ) → sends event ≡ Some m → sent_of self.old.sent m ≡ None }
         ensures grown { traced self.new ≡ with_event (traced self.old) event }
-        ensures sets { (m : ℕ) → sent_of self.new.sent m ≡ noted event self.old.len (sent_of self.old.sent) m }
+        ensures sets { (m : ℕ) → sent_of self.new.sent m ≡ noted event (length self.old.events.items) (sent_of self.old.sent) m }
     {
-        note(&mut self.sent, event, self.len);
-        self.events[self.len as usize] = event;
-        self.len += 1;
+        let number = self.count();
+        note(&mut self.sent, event, number);
+        self.events.push(event);
     }
 }
 

@@ -10,4 +10,4 @@ invariant_of-self g c =
 
 pub returns-clause-place : goal.returns-clause-place
 returns-clause-place g c =
-    placed _ _ _ c.self.invariant _ c.self.view_is _ _ c.requires _ _ c.node-node.ensures c.partner.ensures _ c.take.ensures.after _ _ c.count.ensures c.unwrap_or-index.ensures
+    placed _ _ _ c.self.invariant _ c.self.view_is _ _ c.requires _ _ c.node-node.ensures c.partner.ensures _ c.take.ensures.after _ _ (rw c.count-number.ensures at c.count.ensures) c.unwrap_or-index.ensures
