@@ -47,9 +47,6 @@ pub record Sofar (s rest : List ℕ) (done : List Place) : Type 0 where
   pub sound : AllByRecursion SoundPlace done
   pub is : s ≡ before done ++ rest
 
-pub start : (s : List ℕ) → Sofar s s []
-start s = record { sound = tt; is = refl }
-
 pub more : {s rest after next : List ℕ} {done : List Place} {p : Place} → Sofar s rest done → PlaceAt rest p after → after ≡ 44 ∷ next → Sofar s next (done ++ p ∷ [])
 more {next = next} {done = done} {p = p} h k e = record {
   sound = All-push SoundPlace done p h.sound k.sound;
