@@ -5,4 +5,4 @@ pub mod messages;
 pub mod operations;
 
 pub use messages::{Messages, Sent};
-pub use operations::{MAX_MEMBERS, MAX_OPERATIONS, Operation, Operations};
+pub use operations::{Cut, Cuts, MAX_MEMBERS, MAX_OPERATIONS, Operation, Operations, UnknownCut};

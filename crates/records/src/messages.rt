@@ -1,12 +1,13 @@
 //! The messages that were sent.
 
+use causality::MAX_EVENTS;
 use std::marker::Model;
 use table::Keyed;
 
 pub mod methods;
 
 /// The most messages that are held: one for each event of a trace.
-pub const MAX_MESSAGES: usize = 512;
+pub const MAX_MESSAGES: usize = MAX_EVENTS as usize;
 
 /// A message that was sent: its number, the sender, the event that sent it and the event that received it, if any.
 #[derive(Clone, Copy, Debug)]

@@ -1,5 +1,6 @@
 //! The operations of a trace.
 
+use causality::MAX_EVENTS;
 use gathering::Row;
 use std::marker::Model;
 use table::Keyed;
@@ -7,9 +8,9 @@ use table::Keyed;
 pub mod methods;
 
 /// The most operations that are held.
-pub const MAX_OPERATIONS: usize = 32;
+pub const MAX_OPERATIONS: usize = history::MAX_OPERATIONS as usize;
 /// The most members of an operation.
-pub const MAX_MEMBERS: usize = 512;
+pub const MAX_MEMBERS: usize = MAX_EVENTS as usize;
 
 /// An operation: its packed name, its members, its first and last index at each node, and its four cuts.
 #[derive(Clone, Copy)]
@@ -23,9 +24,31 @@ pub struct Operation {
     pub first: Row,
     /// The index of the last member at each node, 0 where no member stands.
     pub last: Row,
-    /// The joint past, the whole past, the first reach and the joint reach.
-    pub cuts: [Row; 4],
+    pub cuts: Cuts,
 }
+
+/// The four cuts of an operation: for each node, how many of its events lie in the cut, or the index of the first event
+/// reached.
+#[derive(Clone, Copy)]
+pub struct Cuts {
+    pub joint_past: Row,
+    pub whole_past: Row,
+    pub first_reach: Row,
+    pub joint_reach: Row,
+}
+
+/// Which of the four cuts, with its number.
+#[derive(Clone, Copy, PartialEq, Eq, Debug)]
+pub enum Cut {
+    JointPast = 1,
+    WholePast = 2,
+    FirstReach = 3,
+    JointReach = 4,
+}
+
+/// A number that no cut has.
+#[derive(Clone, Copy, PartialEq, Eq, Debug)]
+pub struct UnknownCut(pub u16);
 
 impl Keyed for Operation {
     type Key = u64;

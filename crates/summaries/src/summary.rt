@@ -10,7 +10,7 @@ use crate::trace::Trace;
 use clock::Clock;
 use counting::row_of;
 use gathering::{Earliest, Greatest, Least};
-use records::Operation;
+use records::{Cuts, Operation};
 
 /// The record of an operation with these members, in a trace that both clocks took.
 pub fn summarize<F: Clock, R: Clock>(
@@ -38,11 +38,11 @@ pub fn summarize<F: Clock, R: Clock>(
         members: members.events,
         first,
         last,
-        cuts: [
+        cuts: Cuts {
             joint_past,
             whole_past,
-            from_end(&ends, &greatest),
-            from_end(&ends, &least),
-        ],
+            first_reach: from_end(&ends, &greatest),
+            joint_reach: from_end(&ends, &least),
+        },
     }
 }

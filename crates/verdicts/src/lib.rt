@@ -40,11 +40,11 @@ fn compare(
     ensures walked { result ≡ walk_until stop (row_comparisons indexes.now comparison bounds.now nodes) }
 {
     let mut steps = 0;
-    for i in 0..ROW.min(nodes as usize) {
-        let index = indexes.counts[i];
-        if index != 0 {
+    let held = &indexes.counts[..ROW.min(nodes as usize)];
+    for (i, index) in held.iter().enumerate() {
+        if *index != 0 {
             steps += 1;
-            if comparison.holds(index, bounds.counts[i]) == stop {
+            if comparison.holds(*index, bounds.counts[i]) == stop {
                 return (stop, steps);
             }
         }
@@ -74,11 +74,11 @@ pub fn relate(relation: Relation, x: &Operation, y: &Operation, nodes: u16) -> (
     ensures walked { Answers relation x.now y.now nodes result }
 {
     match relation {
-        Relation::R1 => every(&x.last, Comparison::AtMost, &y.cuts[0], nodes),
-        Relation::R2 => every(&x.last, Comparison::AtMost, &y.cuts[1], nodes),
-        Relation::R2P => some(&y.last, Comparison::AtLeast, &x.cuts[3], nodes),
-        Relation::R3 => some(&x.first, Comparison::AtMost, &y.cuts[0], nodes),
-        Relation::R3P => every(&y.first, Comparison::AtLeast, &x.cuts[2], nodes),
-        Relation::R4 => some(&x.first, Comparison::AtMost, &y.cuts[1], nodes),
+        Relation::R1 => every(&x.last, Comparison::AtMost, &y.cuts.joint_past, nodes),
+        Relation::R2 => every(&x.last, Comparison::AtMost, &y.cuts.whole_past, nodes),
+        Relation::R2P => some(&y.last, Comparison::AtLeast, &x.cuts.joint_reach, nodes),
+        Relation::R3 => some(&x.first, Comparison::AtMost, &y.cuts.joint_past, nodes),
+        Relation::R3P => every(&y.first, Comparison::AtLeast, &x.cuts.first_reach, nodes),
+        Relation::R4 => some(&x.first, Comparison::AtMost, &y.cuts.whole_past, nodes),
     }
 }

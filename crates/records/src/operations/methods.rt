@@ -1,23 +1,48 @@
 //! Looking up and adding operations.
 
 ghost use Rattle.std.specs.Prelude.{◌≡◌, ℕ, ◌+◌, ◌<◌, if◌then◌else◌, Some, None, MatchOption, nat_eq, length};
-ghost use Rattle.records.specs.Operations.{FindsOperation, cut_of, operation_at, operation_of};
+ghost use Rattle.records.specs.Operations.{FindsOperation, SelectsCut, cut_of, row_of, operation_at, operation_of};
 
-use super::{MAX_MEMBERS, MAX_OPERATIONS, Operation, Operations};
+use super::{Cut, Cuts, MAX_MEMBERS, MAX_OPERATIONS, Operation, Operations, UnknownCut};
 use gathering::{ROW, Row};
+
+impl TryFrom<u16> for Cut {
+    type Error = UnknownCut;
+
+    ghost try_from_gives = { SelectsCut };
+
+    fn try_from(number: u16) -> Result<Cut, UnknownCut> {
+        match number {
+            1 => Ok(Cut::JointPast),
+            2 => Ok(Cut::WholePast),
+            3 => Ok(Cut::FirstReach),
+            4 => Ok(Cut::JointReach),
+            _ => Err(UnknownCut(number)),
+        }
+    }
+}
+
+impl Cuts {
+    /// The row of one of them.
+    pub fn row(&self, cut: Cut) -> Row
+        ensures { result ≡ row_of self.now cut }
+    {
+        match cut {
+            Cut::JointPast => self.joint_past,
+            Cut::WholePast => self.whole_past,
+            Cut::FirstReach => self.first_reach,
+            Cut::JointReach => self.joint_reach,
+        }
+    }
+}
 
 impl Operation {
     /// A cut by its number: joint past (1), whole past (2), first reach (3), joint reach (4).
     pub fn cut(&self, w: u16) -> Option<Row>
         ensures { result ≡ cut_of self.now w }
     {
-        match w {
-            1 => Some(self.cuts[0]),
-            2 => Some(self.cuts[1]),
-            3 => Some(self.cuts[2]),
-            4 => Some(self.cuts[3]),
-            _ => None,
-        }
+        let cut = Cut::try_from(w).ok()?;
+        Some(self.cuts.row(cut))
     }
 }
 
@@ -34,7 +59,12 @@ impl Operations {
                 members: [0; MAX_MEMBERS],
                 first: zeros,
                 last: zeros,
-                cuts: [zeros; 4],
+                cuts: Cuts {
+                    joint_past: zeros,
+                    whole_past: zeros,
+                    first_reach: zeros,
+                    joint_reach: zeros,
+                },
             }; MAX_OPERATIONS],
             len: 0,
         }
