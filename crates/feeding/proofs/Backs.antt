@@ -122,7 +122,3 @@ all_turned P (x ∷ xs) ys (h, hs) k = all_turned P xs (x ∷ ys) hs (h, k)
 
 pub all-reverse : {X : Type 0} (P : X → Type 0) (xs : List X) → AllByRecursion P xs → AllByRecursion P (reverse xs)
 all-reverse P xs h = all_turned P xs [] h tt
-
-pub taken-same : (μ μ' : Meaning) (a a' : ℕ) (b b' m m' : Option ℕ) → μ ≡ μ' → a ≡ a' → b ≡ b' → m ≡ m' → taken μ a b m ≡ taken μ' a' b' m'
-taken-same μ μ' a a' b b' m m' p q r s =
-    ap (λ (x : Meaning). taken x a b m) p ∙ ap (λ (x : ℕ). taken μ' x b m) q ∙ ap (λ (x : Option ℕ). taken μ' a' x m) r ∙ ap (λ (x : Option ℕ). taken μ' a' b' x) s
