@@ -15,8 +15,8 @@ use Rattle.clock.specs.Meaning.{Meaning, taken, counted}
 use Rattle.clock.proofs.Takes.{meanings_answer}
 use Rattle.history.specs.History.{History, is_closed, is_none}
 use Rattle.history.specs.Calls.{Call, refusals, refusal, with_event}
-use Rattle.history.specs.Lawful.{Lawful}
-use Rattle.history.proofs.Lawful.{May, may_lawful, may_local, may_send, may_receive, may_meet}
+use Rattle.history.specs.Lawful.{Lawful, May}
+use Rattle.history.proofs.Lawful.{may_lawful, may_local, may_send, may_receive, may_meet}
 use Rattle.history.proofs.Passed.{passed}
 use Rattle.records.specs.declared.messages.Sent.{Sent}
 use Rattle.records.specs.Messages.{sent_of}
@@ -30,11 +30,6 @@ use Rattle.correlator.specs.Told.{Told, history}
 use Rattle.correlator.specs.Trace.{told, traced, noted}
 use Rattle.correlator.specs.Sound.{fed, fed_back, Sound, Next}
 use Rattle.correlator.proofs.Refusals.{told-length}
-
--- a count that is absent counts as none
-pub unwrapped : (o : Option ℕ) → unwrap_or o 0 ≡ or_zero o
-unwrapped None = refl
-unwrapped (Some k) = refl
 
 -- ---- which calls bring an event that may be next
 
@@ -114,6 +109,6 @@ module _ (ahead back : Meaning) (t : Trace) (sound : Sound ahead back t) (seen :
     placed count index counts is-count =
         let h = traced t in
         let counted-here : index ≡ next_index (told t).events (node_of v) =
-        is-count ∙ unwrapped count ∙ ap or_zero (counts ∙ ap₂ (λ (μ : Meaning) (i : ℕ). counted μ (length t.events.items) i) took at-n)
+        is-count ∙ ap or_zero (counts ∙ ap₂ (λ (μ : Meaning) (i : ℕ). counted μ (length t.events.items) i) took at-n)
         ∙ ap (λ (l : ℕ). or_zero (counted (fed (with_event h v)) l (node_of v))) (sym (told-length t)) ∙ new_index h v here.may in
         ap₂ (λ (i k : ℕ). record { node = i; index = k }) at-n counted-here ∙ ap (λ (x : Told). next_place (history x) (node_of v)) is

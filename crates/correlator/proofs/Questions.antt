@@ -30,7 +30,6 @@ use Rattle.correlator.specs.declared.trace.Trace.{Trace}
 use Rattle.correlator.specs.Told.{Told, history}
 use Rattle.correlator.specs.Trace.{told, traced}
 use Rattle.correlator.specs.Sound.{fed, Sound}
-use Rattle.correlator.proofs.Events.{unwrapped}
 use Rattle.correlator.proofs.Refusals.{told-length}
 
 -- ---- what the forward clock tells of a place
@@ -149,7 +148,7 @@ module _ (ahead back : Meaning) (t : Trace) (sound : Sound ahead back t) (seen :
       count ≡ counted ahead y p.node → number ≡ unwrap_or count 0 → Decides (leb p.index number) (To seen.events x y)
   reached p q x y count number e f counts is-count =
       let h = history seen in
-      rw (is-count ∙ unwrapped count ∙ ap or_zero (counts ∙ ap (λ (μ : Meaning). counted μ y p.node) follows))
+      rw (is-count ∙ ap or_zero (counts ∙ ap (λ (μ : Meaning). counted μ y p.node) follows))
       (counts_decide h lawful p x y e (named-low h q y f))
 
   -- a row of counts is the row of timestamps that was asked for

@@ -13,8 +13,7 @@ use Rattle.clock.specs.Meaning.{Meaning}
 use Rattle.clock.specs.Takes.{meaning}
 use Rattle.feeding.specs.Posted.{posted}
 use Rattle.history.specs.History.{History, is_closed}
-use Rattle.history.specs.Lawful.{Lawful}
-use Rattle.history.proofs.Lawful.{May}
+use Rattle.history.specs.Lawful.{Lawful, May}
 use Rattle.records.specs.Messages.{sent_of}
 use Rattle.correlator.specs.declared.trace.Trace.{Trace}
 use Rattle.correlator.specs.Trace.{told, traced}

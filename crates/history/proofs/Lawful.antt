@@ -8,16 +8,8 @@ use Rattle.causality.proofs.Newest.{nothing}
 use Rattle.history.specs.declared.refusal.Refusal.{Refusal}
 use Rattle.history.specs.History.{History, is_full, was_received}
 use Rattle.history.specs.Calls.{Call, refusals, refusal, with_event, after, next_history}
-use Rattle.history.specs.Lawful.{Fits, Lawful, HistoriesLawful}
+use Rattle.history.specs.Lawful.{Fits, Lawful, May, HistoriesLawful}
 use Rattle.history.proofs.Passed.{passed}
-
--- event v may come next
-pub record May (h : History) (v : Event) : Type 0 where
-  pub fits : Fits h.nodes v
-  pub unsent : (m : ℕ) → sends v ≡ Some m → was_sent h.events m ≡ false
-  pub known : (m : ℕ) → receives v ≡ Some m → was_sent h.events m ≡ true
-  pub unreceived : (m : ℕ) → receives v ≡ Some m → was_received h.events m ≡ false
-  pub room : is_full h.events ≡ false
 
 pub may_lawful : (h : History) (v : Event) → Lawful h → May h v → Lawful (with_event h v)
 may_lawful h v lawful may = record {

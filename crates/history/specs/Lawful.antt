@@ -5,8 +5,8 @@ use Rattle.std.specs.List.{AllByRecursion}
 use Rattle.causality.specs.declared.Event.{Event}
 use Rattle.causality.specs.Limits.{max_nodes, max_events, is_node}
 use Rattle.causality.specs.Entries.{is}
-use Rattle.causality.specs.Traces.{node_of, partner_of, receives, Accepted}
-use Rattle.history.specs.History.{History, idle, was_received}
+use Rattle.causality.specs.Traces.{node_of, partner_of, sends, receives, was_sent, Accepted}
+use Rattle.history.specs.History.{History, idle, was_received, is_full}
 use Rattle.history.specs.Calls.{Call, next_history}
 
 -- what is given, if anything, is a node
@@ -30,6 +30,14 @@ pub record Lawful (h : History) : Type 0 where
   pub once : Once h.events
   pub few : length h.events ≤ max_events
   pub nodes : is_node max_nodes h.nodes ≡ true
+
+-- event v may come next
+pub record May (h : History) (v : Event) : Type 0 where
+  pub fits : Fits h.nodes v
+  pub unsent : (m : ℕ) → sends v ≡ Some m → was_sent h.events m ≡ false
+  pub known : (m : ℕ) → receives v ≡ Some m → was_sent h.events m ≡ true
+  pub unreceived : (m : ℕ) → receives v ≡ Some m → was_received h.events m ≡ false
+  pub room : is_full h.events ≡ false
 
 abbrev pub HistoriesLawful : Type 0
 HistoriesLawful = Lawful idle × ((h : History) (c : Call) → Lawful h → Lawful (next_history h c))

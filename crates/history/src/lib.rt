@@ -12,11 +12,11 @@ pub mod refusal;
 pub use refusal::Refusal;
 
 /// The most operations of a trace.
-pub const MAX_OPERATIONS: u16 = 32;
+pub const MAX_OPERATIONS: usize = 32;
 /// The most places in a list of places.
-pub const MAX_PLACES: u16 = 512;
+pub const MAX_PLACES: usize = 512;
 /// The most bytes of an operation's name.
-pub const MAX_NAME: u16 = 8;
+pub const MAX_NAME: usize = 8;
 
 /// Whether there is a trace, and whether events may still come.
 #[derive(Clone, Copy, PartialEq, Eq, Debug)]

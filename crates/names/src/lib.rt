@@ -8,7 +8,7 @@ ghost use Rattle.std.specs.Prelude.{◌≡◌, if◌then◌else◌, Some, None};
 /// The fewest bytes of a name.
 const MIN_NAME: usize = 1;
 /// The most bytes of a name.
-pub const MAX_NAME: usize = history::MAX_NAME as usize;
+pub const MAX_NAME: usize = history::MAX_NAME;
 
 /// Whether a byte may stand in a name: A to Z or 0 to 9.
 pub fn is_letter(b: u8) -> bool

@@ -9,7 +9,7 @@ use causality::Place;
 use line_parts::{read_place, strip};
 
 /// The most places of a list.
-pub const MAX_PLACES: usize = history::MAX_PLACES as usize;
+pub const MAX_PLACES: usize = history::MAX_PLACES;
 
 /// How many places the bytes list; none if they are no list.
 pub fn count_places(list: &[u8]) -> Option<usize>

@@ -8,7 +8,7 @@ use table::Keyed;
 pub mod methods;
 
 /// The most operations that are held.
-pub const MAX_OPERATIONS: usize = history::MAX_OPERATIONS as usize;
+pub const MAX_OPERATIONS: usize = history::MAX_OPERATIONS;
 /// The most members of an operation.
 pub const MAX_MEMBERS: usize = MAX_EVENTS as usize;
 
