@@ -1,4 +1,4 @@
--- What a writer does to its buffer, and the bytes of each line of an answer, as the format shows them.
+-- What a writer does to its output, and the bytes of each line of an answer, as the format shows them.
 --
 --   Wrote ..          what was written stays, the bytes follow it, and what lies behind is as it was
 --   Writes old bs new   the same of an output, which is still the same memory

@@ -1,4 +1,4 @@
--- The first elements of an array, newest first, as entries and timelines are kept.
+-- The first elements of a list that is kept oldest first, newest first.
 use Rattle.std.specs.Prelude.{ℕ, zero, suc, List, [], ◌∷◌}
 
 -- f at each number below k, the highest first

@@ -11,7 +11,7 @@ ghost use Rattle.gathering.specs.Zips.{zipped_assoc};
 
 use std::array;
 
-/// A way to join two values of T into one, in any grouping. A type without values of its own names it.
+/// A way to join two values of T into one, in any grouping. A type names it; no value of that type is needed.
 pub trait Joining<T> {
     ghost op: { T → T → T };
 

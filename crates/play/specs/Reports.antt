@@ -17,14 +17,14 @@ call_of (Meet a b) = Call.meet a b
 call_of (Order p q) = Call.order p q
 
 -- what an accepted call has to tell: an order, for the line that asks for one
-abbrev pub Told : History → Line → Option CausalOrder → Type 0
-Told h (Nodes n) o = o ≡ None
-Told h (Local a) o = o ≡ None
-Told h (Send a m) o = o ≡ None
-Told h (Receive a m) o = o ≡ None
-Told h (Meet a b) o = o ≡ None
-Told h (Order p q) o = (x : CausalOrder) × (o ≡ Some x) × OrderOf h p q x
+abbrev pub Tells : History → Line → Option CausalOrder → Type 0
+Tells h (Nodes n) o = o ≡ None
+Tells h (Local a) o = o ≡ None
+Tells h (Send a m) o = o ≡ None
+Tells h (Receive a m) o = o ≡ None
+Tells h (Meet a b) o = o ≡ None
+Tells h (Order p q) o = (x : CausalOrder) × (o ≡ Some x) × OrderOf h p q x
 
 -- what is reported of a line: its call's refusal, if the history that it finds refuses it, or else what it has to tell
 abbrev pub Reported : History → Line → Result (Option CausalOrder) Refusal → Type 0
-Reported h l r = (reason r ≡ refusal h (call_of l)) × IfOk r (Told h l)
+Reported h l r = (reason r ≡ refusal h (call_of l)) × IfOk r (Tells h l)

@@ -2,7 +2,7 @@
 
 ghost use Rattle.correlator.specs.Told.{history};
 ghost use Rattle.history.specs.Answers.{Obeys};
-ghost use Rattle.play.specs.Reports.{Told, call_of};
+ghost use Rattle.play.specs.Reports.{Tells, call_of};
 
 use causality::CausalOrder;
 use clock::Clock;
@@ -15,7 +15,7 @@ pub type Report = Result<Option<CausalOrder>, Refusal>;
 
 /// Makes the call that a line spells; answers what is to be reported of it.
 pub fn answer<F: Clock, R: Clock>(c: &mut Correlator<F, R>, line: Line) -> Report
-    ensures { Obeys (history c.old) (call_of line) result (Told (history c.old) line) (history c.new) }
+    ensures { Obeys (history c.old) (call_of line) result (Tells (history c.old) line) (history c.new) }
 {
     match line {
         Line::Nodes(n) => c.start(n).map(|()| None),

@@ -40,10 +40,14 @@ pub struct Cuts {
 /// Which of the four cuts, with its number.
 #[derive(Clone, Copy, PartialEq, Eq, Debug)]
 pub enum Cut {
-    JointPast = 1,
-    WholePast = 2,
-    FirstReach = 3,
-    JointReach = 4,
+    /// 1: the least forward count of a member at each node.
+    JointPast,
+    /// 2: the greatest.
+    WholePast,
+    /// 3: the index of the first event that some member comes to.
+    FirstReach,
+    /// 4: the index of the first event that every member comes to.
+    JointReach,
 }
 
 /// A number that no cut has.

@@ -1,7 +1,7 @@
 -- When the record of an operation is right: where both clocks took the trace, its rows are those of the theory.
 --
 --   Traced vs n μ ρ es total   the forward clock took the trace vs of n nodes, the reverse clock took it from last to first, and
---                              the array es has its events, oldest first
+--                              the slice es has its events, oldest first
 --   Summed ..                  in any trace that the clocks took, of which the members are events, o is the record of the members
 use Rattle.std.specs.Prelude.{◌≡◌, ℕ, ◌<◌, ◌≤◌, List, ◌∷◌, reverse, length, take}
 use Rattle.std.specs.List.{AllByRecursion}

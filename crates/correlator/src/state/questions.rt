@@ -18,10 +18,10 @@ use history::{Refusal, Stage};
 /// Which of the two timestamps of an event.
 #[derive(Clone, Copy, PartialEq, Eq, Debug)]
 pub enum Direction {
-    /// It counts the events that happened before.
-    Forward = 1,
-    /// It counts those that happened after.
-    Reverse = 2,
+    /// 1: it counts the event and those that happened before it.
+    Forward,
+    /// 2: it counts the event and those that happened after it.
+    Reverse,
 }
 
 impl TryFrom<u16> for Direction {
