@@ -5,8 +5,8 @@
 #![tactic(auto)]
 
 ghost use Rattle.causality.specs.Limits.{is_relation, relation_number};
-ghost use Rattle.causality.specs.Traces.{node_of, partner_of};
-ghost use Rattle.std.specs.Prelude.{◌≡◌, true, false, MatchResult};
+ghost use Rattle.causality.specs.Traces.{node_of, partner_of, stands};
+ghost use Rattle.std.specs.Prelude.{◌≡◌, ◌-◌, true, false, MatchResult};
 
 pub mod theorems;
 
@@ -14,6 +14,10 @@ pub mod theorems;
 pub const MAX_NODES: u16 = 16;
 /// The most events of a trace.
 pub const MAX_EVENTS: u16 = 512;
+/// How many nodes there is room for.
+pub const NODES: usize = MAX_NODES as usize;
+/// How many events there is room for.
+pub const EVENTS: usize = MAX_EVENTS as usize;
 
 /// The k-th event of a node's column, counted from 1: `node.index`.
 #[derive(Clone, Copy, PartialEq, Eq, Debug)]
@@ -60,6 +64,20 @@ impl Event {
             Event::Meet(_, b) => Some(b),
         }
     }
+
+    /// Whether the event stands at node i.
+    pub fn stands(self, i: u16) -> bool
+        ensures { result ≡ stands self i }
+    {
+        self.node() == i || self.partner() == Some(i)
+    }
+}
+
+/// The number that an event has when the events of a trace are numbered from the last.
+pub fn from_last(events: u16, number: u16) -> u16
+    ensures { result ≡ events - 1 - number }
+{
+    events.saturating_sub(1).saturating_sub(number)
 }
 
 /// How one event stands to another in the causal order.
