@@ -1,14 +1,16 @@
 -- A trace that is closed: the reverse clock has taken its events from last to first.
-use Rattle.std.proofs.Common.{◌≡◌, ℕ, cond, List, [], length, sym, ap, ◌∙◌, subst, ap₂}
+use Rattle.std.proofs.Common.{◌≡◌, ℕ, cond, List, [], ◌∷◌, length, None, refl, sym, ap, ◌∙◌, subst, ap₂}
 use mathlib.Core.List.{reverse-reverse}
 use Rattle.std.proofs.lemmas.List.{length-reverse}
 use Rattle.causality.specs.declared.Event.{Event}
 use Rattle.causality.specs.Traces.{backward}
 use Rattle.clock.specs.Meaning.{Meaning}
 use Rattle.clock.specs.Takes.{meaning}
+use Rattle.causality.proofs.Newest.{nothing}
 use Rattle.history.specs.declared.Stage.{Stage}
-use Rattle.history.specs.History.{History, is_closed}
-use Rattle.history.specs.Calls.{Call, after}
+use Rattle.history.specs.declared.refusal.Refusal.{Refusal}
+use Rattle.history.specs.History.{History, is_idle, is_closed}
+use Rattle.history.specs.Calls.{Call, after, first_that}
 use Rattle.history.specs.Lawful.{Fits, Lawful}
 use Rattle.records.specs.declared.messages.Sent.{Sent}
 use Rattle.records.specs.Messages.{sent_of}
@@ -17,6 +19,12 @@ use Rattle.feeding.proofs.Backs.{fed_whole, all-reverse}
 use Rattle.correlator.specs.declared.trace.Trace.{Trace}
 use Rattle.correlator.specs.Trace.{traced}
 use Rattle.correlator.specs.Sound.{fed, Sound}
+
+-- a stage that neither refusal names is open
+pub opened : (s : Stage) → None ≡ first_that ((is_idle s, Refusal.Idle) ∷ (is_closed s, Refusal.Closed) ∷ []) → s ≡ Stage.Open
+opened Stage.Idle e = absurd (nothing e)
+opened Stage.Open e = refl
+opened Stage.Closed e = absurd (nothing e)
 
 pub sound_closed : (ahead back back' : Meaning) (t t' : Trace) → Sound ahead back t → t.stage ≡ Stage.Open → traced t' ≡ after (traced t) Call.close → t'.sent ≡ t.sent →
     back' ≡ fed_through back (follower (sent_of t.sent) (length t.events.items)) t.events.items → Sound ahead back' t'

@@ -1,4 +1,4 @@
 pub mod Told
 pub mod Trace
 pub mod Sound
-pub mod Directions
+pub mod Questions

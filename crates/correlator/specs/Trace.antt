@@ -9,7 +9,7 @@ use Rattle.causality.specs.Entries.{is}
 use Rattle.causality.specs.Traces.{node_of, sends, receives}
 use Rattle.causality.specs.Limits.{max_events, is_node}
 use Rattle.history.specs.declared.refusal.Refusal.{Refusal}
-use Rattle.history.specs.History.{History, is_none}
+use Rattle.history.specs.History.{History, is_idle, is_closed, is_none}
 use Rattle.history.specs.Calls.{in_trace}
 use Rattle.records.specs.declared.messages.Sent.{Sent}
 use Rattle.records.specs.Messages.{sent_of, received}
@@ -31,6 +31,10 @@ noted v n held m =
     (cond (is (receives v) m) (received n (held m)) (held m))
 
 -- ---- refusals
+
+-- those of a call that needs an open trace
+abbrev pub open_tests : History → List (Bool × Refusal)
+open_tests h = (is_idle h.stage, Refusal.Idle) ∷ (is_closed h.stage, Refusal.Closed) ∷ []
 
 abbrev pub local_tests : Trace → ℕ → List (Bool × Refusal)
 local_tests t a = in_trace (traced t) (is_node t.nodes a) ((nat_le max_events (length t.events.items), Refusal.Full) ∷ [])

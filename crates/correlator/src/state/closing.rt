@@ -7,20 +7,16 @@ ghost use Rattle.history.specs.Calls.{Call};
 use super::Correlator;
 use clock::Clock;
 use feeding::feed_back;
-use history::{Refusal, Stage};
+use history::Refusal;
 
 impl<F: Clock, R: Clock> Correlator<F, R> {
     /// Ends the trace: no more events come, and what happened after each is known.
     pub fn close(&mut self) -> Result<(), Refusal>
         ensures { Obeys (history self.old) Call.close result (λ _. Unit {0}) (history self.new) }
     {
-        match self.trace.stage {
-            Stage::Idle => return Err(Refusal::Idle),
-            Stage::Closed => return Err(Refusal::Closed),
-            Stage::Open => {}
-        }
+        self.trace.check_open()?;
         feed_back(&mut self.reverse, &self.trace.events, &self.trace.sent);
-        self.trace.stage = Stage::Closed;
+        self.trace.close();
         Ok(())
     }
 }

@@ -10,8 +10,8 @@ ghost use Rattle.history.specs.History.{idle};
 
 use super::Correlator;
 use crate::trace::Trace;
-use causality::{Event, MAX_NODES, Place};
-use clock::{Clock, NewEntry, is_node};
+use causality::{Event, Place};
+use clock::{Clock, NewEntry};
 use history::Refusal;
 
 impl<F: Clock, R: Clock> Correlator<F, R> {
@@ -30,10 +30,9 @@ impl<F: Clock, R: Clock> Correlator<F, R> {
     pub fn start(&mut self, n: u16) -> Result<(), Refusal>
         ensures { Obeys (history self.old) (Call.start n) result (λ _. Unit {0}) (history self.new) }
     {
-        if !is_node(MAX_NODES, n) {
+        if !self.forward.begin(n) {
             return Err(Refusal::NodeCount);
         }
-        let _ = self.forward.begin(n);
         let _ = self.reverse.begin(n);
         self.trace.start(n);
         Ok(())

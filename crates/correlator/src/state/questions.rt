@@ -3,14 +3,14 @@
 ghost use Rattle.std.specs.Prelude.{◌≡◌, ◌≤◌, length, Decides, IfOk, MatchResult, OnOk, Some, None};
 ghost use Rattle.causality.specs.Relations.{To};
 ghost use Rattle.causality.specs.Traces.{Orderly};
-ghost use Rattle.correlator.specs.Directions.{Selects, direction_number};
+ghost use Rattle.correlator.specs.Questions.{IsAt, Selects, direction_number};
 ghost use Rattle.correlator.specs.Told.{history};
 ghost use Rattle.history.specs.Answers.{Compared, Obeys, OrderOf, reason, stamped};
 ghost use Rattle.history.specs.Calls.{Call, refusal};
 ghost use Rattle.history.specs.History.{named};
 
 use super::Correlator;
-use causality::{CausalOrder, Place};
+use causality::{CausalOrder, Place, from_last};
 use clock::Clock;
 use counting::write_counts;
 use history::{Refusal, Stage};
@@ -50,7 +50,7 @@ impl<F: Clock, R: Clock> Correlator<F, R> {
     pub fn order(&self, p: Place, q: Place) -> Result<CausalOrder, Refusal>
         ensures { Obeys (history self.now) (Call.order p q) result (OrderOf (history self.now) p q) (history self.now) }
     {
-        if let Stage::Idle = self.trace.stage {
+        if self.trace.stage == Stage::Idle {
             return Err(Refusal::Idle);
         }
         let x = self.find(p)?;
@@ -68,7 +68,7 @@ impl<F: Clock, R: Clock> Correlator<F, R> {
             Direction::Forward => write_counts(&self.forward, x.event, self.trace.nodes, row),
             Direction::Reverse => write_counts(
                 &self.reverse,
-                self.trace.from_last(x.event),
+                from_last(self.trace.count(), x.event),
                 self.trace.nodes,
                 row,
             ),
@@ -80,14 +80,14 @@ impl<F: Clock, R: Clock> Correlator<F, R> {
     fn check_stamp(&self, p: Place, d: u16, len: usize) -> Result<(Direction, Found), Refusal>
         ensures first { reason result ≡ refusal (history self.now) (Call.stamp p d len) }
         ensures direction { IfOk result (λ x. direction_number x.0 ≡ d) }
-        ensures found { IfOk result (λ x. named (history self.now) p ≡ Some x.1.event) }
+        ensures found { IfOk result (λ x. (x.1.place ≡ p) × IsAt self.now x.1) }
         ensures room { OnOk result (self.now.nodes ≤ len) }
     {
-        if let Stage::Idle = self.trace.stage {
+        if self.trace.stage == Stage::Idle {
             return Err(Refusal::Idle);
         }
         let direction = Direction::try_from(d)?;
-        if let (Stage::Open, Direction::Reverse) = (self.trace.stage, direction) {
+        if direction == Direction::Reverse && self.trace.stage == Stage::Open {
             return Err(Refusal::Open);
         }
         let x = self.find(p)?;
@@ -99,19 +99,20 @@ impl<F: Clock, R: Clock> Correlator<F, R> {
 
     // The event that a place names.
     fn find(&self, place: Place) -> Result<Found, Refusal>
-        ensures { MatchResult result (λ x. (x.place ≡ place) × (named (history self.now) place ≡ Some x.event)) (λ e. (e ≡ Refusal.NoEvent) × (named (history self.now) place ≡ None)) }
+        ensures { MatchResult result (λ x. (x.place ≡ place) × IsAt self.now x) (λ e. (e ≡ Refusal.NoEvent) × (named (history self.now) place ≡ None)) }
     {
-        match self.forward.at(place.node, place.index) {
-            Some(event) => Ok(Found { place, event }),
-            None => Err(Refusal::NoEvent),
-        }
+        let event = self
+            .forward
+            .at(place.node, place.index)
+            .ok_or(Refusal::NoEvent)?;
+        Ok(Found { place, event })
     }
 
     // The order of two events: a place lies in a past exactly if its index is counted there.
     fn compare(&self, x: Found, y: Found) -> CausalOrder
         requires orderly { Orderly self.now.events }
-        requires x { named (history self.now) x.place ≡ Some x.event }
-        requires y { named (history self.now) y.place ≡ Some y.event }
+        requires x { IsAt self.now x }
+        requires y { IsAt self.now y }
         ensures { Compared self.now.events x.event y.event result }
     {
         if x.event == y.event {
@@ -127,8 +128,8 @@ impl<F: Clock, R: Clock> Correlator<F, R> {
 
     // Whether one event is the other or happened before it.
     fn reaches(&self, x: Found, y: Found) -> bool
-        requires x { named (history self.now) x.place ≡ Some x.event }
-        requires y { named (history self.now) y.place ≡ Some y.event }
+        requires x { IsAt self.now x }
+        requires y { IsAt self.now y }
         ensures { Decides result (To self.now.events x.event y.event) }
     {
         let Place { node, index } = x.place;

@@ -1,6 +1,6 @@
 //! The refusals of each event call, tried in order.
 
-ghost use Rattle.correlator.specs.Trace.{local_tests, meet_tests, receive_tests, send_tests, traced};
+ghost use Rattle.correlator.specs.Trace.{local_tests, meet_tests, open_tests, receive_tests, send_tests, traced};
 ghost use Rattle.causality.specs.Limits.{max_events};
 ghost use Rattle.feeding.specs.Posted.{event_of};
 ghost use Rattle.history.specs.Answers.{reason};
@@ -14,19 +14,27 @@ use clock::is_node;
 use history::{Refusal, Stage};
 
 impl Trace {
-    // An event may come, at nodes that fit.
-    fn check_open(&self, nodes_fit: bool) -> Result<(), Refusal>
-        ensures { reason result ≡ first_that (in_trace (traced self.now) nodes_fit []) }
+    /// There is a trace, and events may still come.
+    pub fn check_open(&self) -> Result<(), Refusal>
+        ensures { reason result ≡ first_that (open_tests (traced self.now)) }
     {
         match self.stage {
-            Stage::Idle => return Err(Refusal::Idle),
-            Stage::Closed => return Err(Refusal::Closed),
-            Stage::Open => {}
+            Stage::Idle => Err(Refusal::Idle),
+            Stage::Closed => Err(Refusal::Closed),
+            Stage::Open => Ok(()),
         }
-        if !nodes_fit {
-            return Err(Refusal::NoNode);
+    }
+
+    // An event may come, at nodes that fit.
+    fn check_nodes(&self, nodes_fit: bool) -> Result<(), Refusal>
+        ensures { reason result ≡ first_that (in_trace (traced self.now) nodes_fit []) }
+    {
+        self.check_open()?;
+        if nodes_fit {
+            Ok(())
+        } else {
+            Err(Refusal::NoNode)
         }
-        Ok(())
     }
 
     // One more event may be held.
@@ -34,16 +42,17 @@ impl Trace {
         ensures { reason result ≡ first_that ((nat_le max_events (length self.now.events.items), Full) ∷ []) }
     {
         if self.events.is_full() {
-            return Err(Refusal::Full);
+            Err(Refusal::Full)
+        } else {
+            Ok(())
         }
-        Ok(())
     }
 
     /// The refusals of a local event.
     pub fn check_local(&self, a: u16) -> Result<(), Refusal>
         ensures { reason result ≡ first_that (local_tests self.now a) }
     {
-        self.check_open(is_node(self.nodes, a))?;
+        self.check_nodes(is_node(self.nodes, a))?;
         self.check_room()
     }
 
@@ -51,7 +60,7 @@ impl Trace {
     pub fn check_send(&self, a: u16, m: u16) -> Result<(), Refusal>
         ensures { reason result ≡ first_that (send_tests self.now a m) }
     {
-        self.check_open(is_node(self.nodes, a))?;
+        self.check_nodes(is_node(self.nodes, a))?;
         if m == 0 {
             return Err(Refusal::NoMessage);
         }
@@ -66,7 +75,7 @@ impl Trace {
         ensures first { reason result ≡ first_that (receive_tests self.now a m) }
         ensures sender { IfOk result (λ e. event_of (sent_of self.now.sent m) ≡ Some e) }
     {
-        self.check_open(is_node(self.nodes, a))?;
+        self.check_nodes(is_node(self.nodes, a))?;
         if m == 0 {
             return Err(Refusal::NoMessage);
         }
@@ -85,7 +94,7 @@ impl Trace {
     pub fn check_meet(&self, a: u16, b: u16) -> Result<(), Refusal>
         ensures { reason result ≡ first_that (meet_tests self.now a b) }
     {
-        self.check_open(is_node(self.nodes, a) && is_node(self.nodes, b))?;
+        self.check_nodes(is_node(self.nodes, a) && is_node(self.nodes, b))?;
         if a == b {
             return Err(Refusal::SameNode);
         }

@@ -1,9 +1,9 @@
 //! Starting a trace, and adding events to it.
 
-ghost use Rattle.std.specs.Prelude.{◌≡◌, ℕ, ◌+◌, ◌-◌, ◌<◌, ◌≤◌, [], length, Some, None};
+ghost use Rattle.std.specs.Prelude.{◌≡◌, ℕ, ◌+◌, ◌<◌, ◌≤◌, [], length, Some, None};
 ghost use Rattle.causality.specs.Traces.{sends};
 ghost use Rattle.correlator.specs.Trace.{noted, told, traced};
-ghost use Rattle.history.specs.Calls.{with_event};
+ghost use Rattle.history.specs.Calls.{Call, after, with_event};
 ghost use Rattle.history.specs.History.{idle};
 ghost use Rattle.records.specs.Messages.{sent_of};
 
@@ -45,11 +45,12 @@ impl Trace {
         self.events.len() as u16
     }
 
-    /// The entry of an event in a clock that takes the events from the last to the first.
-    pub fn from_last(&self, event: u16) -> u16
-        ensures { result ≡ length self.now.events.items - 1 - event }
+    /// Takes no more events.
+    pub fn close(&mut self)
+        ensures closed { traced self.new ≡ after (traced self.old) Call.close }
+        ensures same { self.new.sent ≡ self.old.sent }
     {
-        self.count().saturating_sub(1).saturating_sub(event)
+        self.stage = Stage::Closed;
     }
 
     /// Puts an event behind the others, and notes what it sends or receives.

@@ -1,9 +1,13 @@
-use Rattle.std.proofs.Common.{sym, refl, ◌∙◌}
+use Rattle.std.proofs.Common.{sym, refl, ◌∙◌, rules}
 use Rattle.correlator.proofs.Questions.{finds}
 use Rattle.correlator.proofs.state.Correlator.find.Goals as goal
 
-pub returns-in-Some : goal.returns-in-Some
-returns-in-Some g c = (refl, sym (finds _ _ _ c.self.invariant _ c.self.view_is c.args.place) ∙ sym c.at.ensures ∙ c.in-Some.is)
+pub returns-in_err-event : goal.returns-in_err-event
+returns-in_err-event g c =
+    let named = sym (finds _ _ _ c.self.invariant _ c.self.view_is c.args.place) in
+    search rules
 
-pub returns-in-None : goal.returns-in-None
-returns-in-None g c = (refl, sym (finds _ _ _ c.self.invariant _ c.self.view_is c.args.place) ∙ sym c.at.ensures ∙ c.in-None.is)
+pub returns : goal.returns
+returns g c =
+    let named = sym (finds _ _ _ c.self.invariant _ c.self.view_is c.args.place) in
+    (refl, named ∙ sym c.at.ensures ∙ c.in_ok-event.ensures.ok_part)
