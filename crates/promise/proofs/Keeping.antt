@@ -1,5 +1,5 @@
 -- What a run keeps, and what two runs agree on.
-use Rattle.std.proofs.Common.{◌≡◌, ℕ, zero, suc, ◌≤◌, List, [], ◌∷◌, ◌++◌, length, take, drop, IfOk, Some, Ok, Err, Result, sym, refl, ap, ◌∙◌, subst, arith}
+use Rattle.std.proofs.Common.{◌≡◌, ℕ, zero, suc, List, [], ◌∷◌, ◌++◌, length, take, drop, IfOk, Some, Ok, Err, Result, sym, refl, ap, ◌∙◌, subst, arith}
 use Rattle.agreement.specs.Agreement.{Answered, Reached}
 use Rattle.agreement.proofs.Orders.{orders-agree}
 use Rattle.agreement.proofs.Rows.{stamps_agree}
@@ -15,7 +15,6 @@ use Rattle.promise.specs.declared.requests.Answer.{Answer}
 use Rattle.promise.specs.declared.requests.Lent.{Lent}
 use Rattle.promise.specs.declared.requests.Request.{Request}
 use Rattle.promise.specs.declared.requests.Value.{Value}
-use Rattle.promise.specs.declared.runs.Short.{Short}
 use Rattle.promise.specs.Requests.{call_of, lent_of, lent_length, with_lent, written, Right, Performed}
 use Rattle.promise.specs.Runs.{nth, history_after, found, Ran, Run}
 use Rattle.promise.specs.Promise.{Kept, Agree, Promise, Both}
@@ -103,7 +102,6 @@ promised qs rs qs' rs' r r' =
     let kept' = ran_kept qs' rs' r' in
     record { first = kept; second = kept'; agree = kept-agree qs rs qs' rs' kept kept' }
 
--- the first run was made, and the memory for the second is long enough
-pub both_run : (qs qs' : List Request) (old old' new new' : List Answer) (r : Result (Unit {0}) Short) → Run qs old (Ok tt) new → Run qs' old' r new' → length qs' ≤ length old' → Both qs qs' old old' r new new'
-both_run qs qs' old old' new new' (Ok u) (ran, rest) (ran', rest') room = (promised qs (take (length qs) new) qs' (take (length qs') new') ran ran', rest, rest')
-both_run qs qs' old old' new new' (Err e) first (short, same) room = absurd (omega arith)
+-- both runs were made
+pub both_run : (qs qs' : List Request) (old old' new new' : List Answer) → Run qs old (Ok tt) new → Run qs' old' (Ok tt) new' → Both qs qs' old old' (Ok tt) new new'
+both_run qs qs' old old' new new' (ran, rest) (ran', rest') = (promised qs (take (length qs) new) qs' (take (length qs') new') ran ran', rest, rest')

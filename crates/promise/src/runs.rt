@@ -5,13 +5,12 @@ ghost use Rattle.promise.specs.Promise.{Both};
 ghost use Rattle.promise.specs.Requests.{Performed};
 ghost use Rattle.promise.specs.Runs.{Run};
 ghost use Rattle.promise.specs.declared.requests.Request.TheVariants.{Stamp};
-ghost use Rattle.std.specs.Prelude.{◌≡◌};
+ghost use Rattle.std.specs.Prelude.{◌≤◌, Ok, length};
 
 use crate::requests::{Answer, Lent, Request, Value};
 use causality::{MAX_NODES, Place};
 use clock::Clock;
 use correlator::Correlator;
-use history::Refusal;
 
 /// The memory for the answers is shorter than the list of calls.
 #[derive(Clone, Copy, PartialEq, Eq, Debug)]
@@ -56,10 +55,7 @@ pub fn run<F: Clock + Drop, R: Clock + Drop>(
     if answers.len() < requests.len() {
         return Err(Short);
     }
-    let mut c = Correlator::<F, R>::new();
-    for (k, request) in requests.iter().enumerate() {
-        answers[k] = perform(&mut c, *request);
-    }
+    perform_all::<F, R>(requests, answers);
     Ok(())
 }
 
@@ -75,6 +71,18 @@ pub fn run_both<F: Clock + Drop, R: Clock + Drop, G: Clock + Drop, S: Clock + Dr
     if answers.len() < first.len() || others.len() < second.len() {
         return Err(Short);
     }
-    run::<F, R>(first, answers)?;
-    run::<G, S>(second, others)
+    perform_all::<F, R>(first, answers);
+    perform_all::<G, S>(second, others);
+    Ok(())
+}
+
+// Makes a correlator and performs the calls on it, where there is a place for each answer.
+fn perform_all<F: Clock + Drop, R: Clock + Drop>(requests: &[Request], answers: &mut [Answer])
+    requires { length requests.now ≤ length answers.old }
+    ensures { Run requests.now answers.old (Ok tt) answers.new }
+{
+    let mut c = Correlator::<F, R>::new();
+    for (k, request) in requests.iter().enumerate() {
+        answers[k] = perform(&mut c, *request);
+    }
 }

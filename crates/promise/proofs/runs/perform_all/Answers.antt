@@ -6,7 +6,7 @@ use Rattle.promise.specs.declared.requests.Request.{Request}
 use Rattle.promise.specs.declared.requests.Request.TheVariants.{Start}
 use Rattle.promise.specs.Runs.{Ran}
 use Rattle.promise.proofs.Running.{after_more, ran_more, behind_more}
-use Rattle.promise.proofs.runs.run.Goals as goal
+use Rattle.promise.proofs.runs.perform_all.Goals as goal
 
 pub loop-k-preserved : goal.loop-k-preserved
 loop-k-preserved g c =

@@ -2,7 +2,7 @@ use Rattle.std.proofs.Common.{◌≡◌, take, drop}
 use Rattle.correlator.specs.Told.{history}
 use Rattle.history.specs.History.{idle}
 use Rattle.promise.specs.Runs.{history_after, Ran}
-use Rattle.promise.proofs.runs.run.Given as goal
+use Rattle.promise.proofs.runs.perform_all.Given as goal
 
 abbrev pub invariant-loop-k : goal.invariant-loop-k
 invariant-loop-k g l =
