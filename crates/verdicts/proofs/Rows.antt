@@ -8,8 +8,7 @@ use Rattle.gathering.specs.declared.Row.{Row}
 use Rattle.records.specs.Summaries.{at_node, present}
 use Rattle.relating.specs.Walks.{at_index, comparisons, one_more}
 use Rattle.relating.proofs.Agreements.{comparisons_agree}
-use Rattle.verdicts.specs.declared.Comparison.{Comparison}
-use Rattle.verdicts.specs.Verdicts.{outcome, row_comparisons, walk_until}
+use Rattle.verdicts.specs.Verdicts.{row_comparisons, walk_until}
 
 -- ---- walks over any comparisons
 
@@ -30,18 +29,18 @@ first_step true false cs = refl
 first_step false true cs = refl
 first_step false false cs = refl
 
-none_made : (stop : Bool) → walk_until stop [] ≡ (not stop, 0)
+pub none_made : (stop : Bool) → walk_until stop [] ≡ (not stop, 0)
 none_made true = refl
 none_made false = refl
 
 -- ---- comparisons of rows
 
-module _ (indexes : Row) (c : Comparison) (bounds : Row) where
+module _ (indexes : Row) (c : ℕ → ℕ → Bool) (bounds : Row) where
   abbrev index_at : ℕ → ℕ
   index_at i = get_or indexes.counts i 0
 
   abbrev test_at : ℕ → Bool
-  test_at i = outcome c (index_at i) (get_or bounds.counts i 0)
+  test_at i = c (index_at i) (get_or bounds.counts i 0)
 
   abbrev compared_to : ℕ → List Bool
   compared_to n = row_comparisons indexes c bounds n
@@ -60,7 +59,7 @@ module _ (indexes : Row) (c : Comparison) (bounds : Row) where
         | inl e ↦ ([], rw e (sym (append-nil _)))
         | inr e ↦
             let (rest, same) = begin m n (omega arith) in
-            let more = at_index (present (index_at n)) (λ k. outcome c k (get_or bounds.counts n 0)) in
+            let more = at_index (present (index_at n)) (λ k. c k (get_or bounds.counts n 0)) in
             (rest ++ more, rw same (append_assoc (compared_to m) rest more))
       ]
 
@@ -96,9 +95,9 @@ module _ (indexes : Row) (c : Comparison) (bounds : Row) where
     ended n e = rw (within-row n, ← e) so_far
 
 -- rows that have the indexes and bounds of a trace at its nodes have its comparisons
-pub rows_compared : {o : ℕ → Option ℕ} {bound : ℕ → ℕ} (n : ℕ) (indexes : Row) (c : Comparison) (bounds : Row) →
+pub rows_compared : {o : ℕ → Option ℕ} {bound : ℕ → ℕ} (n : ℕ) (indexes : Row) (c : ℕ → ℕ → Bool) (bounds : Row) →
     ((i : ℕ) → is_node n i ≡ true → present (at_node indexes i) ≡ o i) → ((i : ℕ) → is_node n i ≡ true → at_node bounds i ≡ bound i) →
-    row_comparisons indexes c bounds n ≡ comparisons o (λ i k. outcome c k (bound i)) n
+    row_comparisons indexes c bounds n ≡ comparisons o (λ i k. c k (bound i)) n
 rows_compared {o} n indexes c bounds index_is bound-is =
     let node : (i : ℕ) → 1 ≤ i → i ≤ n → is_node n i ≡ true = λ i l m. and_from _ _ (le-leb 1 i l) (le-leb i n m) in
-    comparisons_agree _ o _ _ n (λ i l m. (index_is i (node i l m), λ k. ap (outcome c k) (bound-is i (node i l m))))
+    comparisons_agree _ o _ _ n (λ i l m. (index_is i (node i l m), λ k. ap (c k) (bound-is i (node i l m))))

@@ -1,11 +1,11 @@
 -- Walks over two rows of an operation's record, and what the answer of a relation between two operations is.
 --
---   outcome c k bound           whether an index k stands to a bound as the comparison c says
---   row_comparisons ks c bs n   the indexes ks compared with the bounds bs, at the nodes 1 to n that have an index
+--   Tests post test             a closure answers what the test does
+--   row_comparisons ks t bs n   the indexes ks compared by the test t with the bounds bs, at the nodes 1 to n that have an index
 --   walk_until stop bs          the walk over comparisons that stops at the first which comes out as `stop`
 --   Answers r o p n a           in any trace of n nodes where o and p are the records of two operations, a is the answer
 --                               that the walk of relation r gives: the verdict and the steps
-use Rattle.std.specs.Prelude.{◌≡◌, ℕ, Bool, cond, List, nat_le}
+use Rattle.std.specs.Prelude.{◌≡◌, ℕ, ◌<◌, Bool, cond, List}
 use Rattle.causality.specs.declared.Event.{Event}
 use Rattle.causality.specs.declared.Relation.{Relation}
 use Rattle.causality.specs.Limits.{relation_number}
@@ -13,15 +13,13 @@ use Rattle.gathering.specs.declared.Row.{Row}
 use Rattle.records.specs.declared.operations.Operation.{Operation}
 use Rattle.records.specs.Summaries.{at_node, present, Summary}
 use Rattle.relating.specs.Walks.{comparisons, every_walk, some_walk, walk}
-use Rattle.verdicts.specs.declared.Comparison.{Comparison}
-use Rattle.verdicts.specs.declared.Comparison.TheVariants.{AtMost, AtLeast}
 
-abbrev pub outcome : Comparison → ℕ → ℕ → Bool
-outcome AtMost k bound = nat_le k bound
-outcome AtLeast k bound = nat_le bound k
+-- what a closure may answer of two numbers of a row is what the test answers
+abbrev pub Tests : (ℕ → ℕ → Bool → Type 0) → (ℕ → ℕ → Bool) → Type 0
+Tests post test = (k bound : ℕ) (r : Bool) → k < 65536 → bound < 65536 → post k bound r → r ≡ test k bound
 
-abbrev pub row_comparisons : Row → Comparison → Row → ℕ → List Bool
-row_comparisons indexes comparison bounds n = comparisons (λ i. present (at_node indexes i)) (λ i k. outcome comparison k (at_node bounds i)) n
+abbrev pub row_comparisons : Row → (ℕ → ℕ → Bool) → Row → ℕ → List Bool
+row_comparisons indexes test bounds n = comparisons (λ i. present (at_node indexes i)) (λ i k. test k (at_node bounds i)) n
 
 abbrev pub walk_until : Bool → List Bool → Bool × ℕ
 walk_until stop bs = cond stop (some_walk bs) (every_walk bs)
