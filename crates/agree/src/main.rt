@@ -7,7 +7,7 @@ use clock::Clock;
 use counting::NO_ROW;
 use history::Refusal;
 use link_clock::LinkClock;
-use promise::{Answer, Lent, Request, Value, run_both};
+use promise::{Answer, Lent, Request, Short, Value, run_both};
 use row_clock::RowClock;
 use std::io;
 
@@ -46,6 +46,7 @@ const REARRIVED: [Request; TOLD] = [
     Request::Close,
 ];
 
+/// A row of three numbers.
 const LENT: Lent = Lent {
     row: NO_ROW,
     len: 3,
@@ -68,7 +69,7 @@ const QUESTIONS: [Request; ASKED] = [
 
 const UNANSWERED: Answer = Answer {
     result: Err(Refusal::Idle),
-    row: NO_ROW,
+    row: None,
 };
 
 // The calls that tell a job, and then the questions.
@@ -92,7 +93,15 @@ fn stamped(counts: [u16; 3]) -> Answer {
     row.counts[..3].copy_from_slice(&counts);
     Answer {
         result: Ok(Value::Done),
-        row,
+        row: Some(row),
+    }
+}
+
+// A stamp that is refused leaves its row as it was.
+fn unstamped(refusal: Refusal) -> Answer {
+    Answer {
+        result: Err(refusal),
+        row: Some(NO_ROW),
     }
 }
 
@@ -109,7 +118,7 @@ fn wanted() -> [Answer; ASKED] {
         stamped([2, 2, 3]),
         stamped([0, 2, 3]),
         stamped([2, 1, 4]),
-        refused(Refusal::BadSelector),
+        unstamped(Refusal::BadSelector),
     ]
 }
 
@@ -120,13 +129,15 @@ fn differing<F: Clock + Drop, R: Clock + Drop, G: Clock + Drop, S: Clock + Drop>
 ) -> usize {
     let mut answers = [UNANSWERED; CALLS];
     let mut others = [UNANSWERED; CALLS];
-    let _ = run_both::<F, R, G, S>(first, second, &mut answers, &mut others);
-    answers[TOLD..]
-        .iter()
-        .zip(&others[TOLD..])
-        .zip(&wanted())
-        .filter(|((a, b), wanted)| a != wanted || b != wanted)
-        .count()
+    match run_both::<F, R, G, S>(first, second, &mut answers, &mut others) {
+        Err(Short) => ASKED,
+        Ok(()) => answers[TOLD..]
+            .iter()
+            .zip(&others[TOLD..])
+            .zip(&wanted())
+            .filter(|((a, b), wanted)| a != wanted || b != wanted)
+            .count(),
+    }
 }
 
 // The same for one pair of clocks against each pair.

@@ -1,5 +1,6 @@
 -- What a run keeps, and what two runs agree on.
-use Rattle.std.proofs.Common.{◌≡◌, ℕ, zero, suc, List, [], ◌∷◌, ◌++◌, length, take, drop, IfOk, Some, Ok, Err, Result, sym, refl, ap, ◌∙◌, subst, arith}
+use Rattle.std.proofs.Common.{◌≡◌, ℕ, zero, suc, List, [], ◌∷◌, ◌++◌, length, take, drop, IfOk, Some, None, Option, Ok, Err, Result, sym, refl, ap, ◌∙◌, subst, arith}
+use Rattle.std.specs.Option.{option_map}
 use Rattle.agreement.specs.Agreement.{Answered, Reached}
 use Rattle.agreement.proofs.Orders.{orders-agree}
 use Rattle.agreement.proofs.Rows.{stamps_agree}
@@ -72,13 +73,15 @@ module _ (h h' : History) (q : Request) (c : Call) (a : Answer) (done : Performe
   right_by : IfOk a.result (Right h c)
   right_by = subst (λ (x : Call). IfOk a.result (Right h x)) call done.right
 
-  row_by : a.row ≡ with_lent (lent_of q) (written h c)
-  row_by = done.row ∙ ap (λ (x : Call). with_lent (lent_of q) (written h x)) call
+  row_by : a.row ≡ option_map (λ l. with_lent l (written h c)) (lent_of q)
+  row_by = done.row ∙ ap (λ (x : Call). option_map (λ l. with_lent l (written h x)) (lent_of q)) call
 
 -- rows that are written alike, in the same memory
-rows_alike : (l l' : Lent) (f g : List ℕ → List ℕ) → l ≡ l' → ((old : List ℕ) → f old ≡ g old) → with_lent l f ≡ with_lent l' g
-rows_alike l l' f g e same =
-    ap (λ (xs : List ℕ). record { counts = xs ++ drop (lent_length l) l.row.counts }) (same (take (lent_length l) l.row.counts)) ∙ ap (λ (x : Lent). with_lent x g) e
+rows_alike : (l l' : Option Lent) (f g : List ℕ → List ℕ) → l ≡ l' → ((old : List ℕ) → f old ≡ g old) →
+    option_map (λ x. with_lent x f) l ≡ option_map (λ x. with_lent x g) l'
+rows_alike None l' f g e same = ap (option_map (λ (x : Lent). with_lent x g)) e
+rows_alike (Some l) l' f g e same =
+    ap (λ (xs : List ℕ). Some (record { counts = xs ++ drop (lent_length l) l.row.counts })) (same (take (lent_length l) l.row.counts)) ∙ ap (option_map (λ (x : Lent). with_lent x g)) e
 
 module _ (qs : List Request) (rs : List Answer) (qs' : List Request) (rs' : List Answer) (kept : Kept qs rs) (kept' : Kept qs' rs') where
   pub kept-agree : Agree qs rs qs' rs'

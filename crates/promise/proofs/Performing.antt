@@ -1,5 +1,5 @@
 -- What one request does, from what its call obeys.
-use Rattle.std.proofs.Common.{◌≡◌, ℕ, ◌-◌, List, ◌++◌, length, take, drop, IfOk, MatchResult, Ok, Err, Result, sym, refl, ap, ◌∙◌, subst, ap₂, arith}
+use Rattle.std.proofs.Common.{◌≡◌, ℕ, ◌-◌, List, ◌++◌, length, take, drop, IfOk, MatchResult, Some, Ok, Err, Result, sym, refl, ap, ◌∙◌, subst, ap₂, arith}
 use borrow.Rule.Slice.PartMut.{post_of}
 use Rattle.std.specs.Option.{option_map}
 use Rattle.std.specs.Result.{IsOkAnd}
@@ -52,7 +52,7 @@ module _ (l : Lent) (m : ℕ) (here : m ≡ lent_length l) (sixteen : length l.r
   part_long = ap length part ∙ length-take-le (lent_length l) l.row.counts (omega arith)
 
   pub lent_left : (f : ℕ → List ℕ → List ℕ) (new : List ℕ) → new ≡ f (length (take (m - 0) l.row.counts)) (take (m - 0) l.row.counts) →
-      record { counts = new ++ post_of 0 (m - 0) l.row.counts } ≡ with_lent l (f (lent_length l))
+      Some (record { counts = new ++ post_of 0 (m - 0) l.row.counts }) ≡ Some (with_lent l (f (lent_length l)))
   lent_left f new e =
       let whole : m - 0 ≡ lent_length l = omega arith in
-      ap₂ (λ (xs ys : List ℕ). record { counts = xs ++ ys }) (e ∙ ap₂ f part_long part) (ap (λ (k : ℕ). drop k l.row.counts) whole)
+      ap₂ (λ (xs ys : List ℕ). Some (record { counts = xs ++ ys })) (e ∙ ap₂ f part_long part) (ap (λ (k : ℕ). drop k l.row.counts) whole)

@@ -1,13 +1,13 @@
 -- The calls and answers that a run is made of, as the history knows them.
 --
 --   call_of q            the call that a request makes
---   lent_of q            the row that it lends, and lent_length l how many numbers of it
+--   lent_of q            the row that it lends, if any, and lent_length l how many numbers of it
 --   written h c old      what the call c, found at the history h, makes of the numbers that it is lent: a stamp that is accepted
 --                        writes its n numbers at the front, and nothing else is altered
---   left_by h q          the whole row after the request
+--   left_by h q          the whole row after the request, if one was lent
 --   Right h c v          v is the answer of the accepted call c; no request makes a gather, a cut or a relate
 --   Performed h q a h'   the request q, found at the history h, was answered by a and left the history h'
-use Rattle.std.specs.Prelude.{◌≡◌, ℕ, min, List, ◌++◌, take, drop, replicate, IfOk, Ok, Err, Result}
+use Rattle.std.specs.Prelude.{◌≡◌, ℕ, min, List, ◌++◌, take, drop, IfOk, Some, None, Option, Ok, Err, Result}
 use Rattle.std.specs.Option.{option_map}
 use Rattle.causality.specs.declared.CausalOrder.{CausalOrder}
 use Rattle.gathering.specs.declared.Row.{Row}
@@ -36,21 +36,15 @@ call_of Close = Call.close
 call_of (Order p q) = Call.order p q
 call_of (Stamp p d lent) = Call.stamp p d (lent_length lent)
 
-abbrev pub no_row : Row
-no_row = record { counts = replicate 16 0 }
-
-abbrev pub nothing_lent : Lent
-nothing_lent = record { row = no_row; len = 0 }
-
-abbrev pub lent_of : Request → Lent
-lent_of (Start n) = nothing_lent
-lent_of (Local a) = nothing_lent
-lent_of (Send a m) = nothing_lent
-lent_of (Receive a m) = nothing_lent
-lent_of (Meet a b) = nothing_lent
-lent_of Close = nothing_lent
-lent_of (Order p q) = nothing_lent
-lent_of (Stamp p d lent) = lent
+abbrev pub lent_of : Request → Option Lent
+lent_of (Start n) = None
+lent_of (Local a) = None
+lent_of (Send a m) = None
+lent_of (Receive a m) = None
+lent_of (Meet a b) = None
+lent_of Close = None
+lent_of (Order p q) = None
+lent_of (Stamp p d lent) = Some lent
 
 -- a row of which the lent numbers were changed
 abbrev pub with_lent : Lent → (List ℕ → List ℕ) → Row
@@ -70,8 +64,8 @@ written h (Call.stamp p d len) old = stamped h p d len old
 written h (Call.cut name w len) old = cut_row h name w len old
 written h (Call.relate r x y) old = old
 
-abbrev pub left_by : History → Request → Row
-left_by h q = with_lent (lent_of q) (written h (call_of q))
+abbrev pub left_by : History → Request → Option Row
+left_by h q = option_map (λ l. with_lent l (written h (call_of q))) (lent_of q)
 
 abbrev pub Right : History → Call → Value → Type 0
 Right h (Call.start n) v = v ≡ Value.Done
@@ -91,9 +85,9 @@ abbrev pub valued : {X : Type 0} → (X → Value) → Result X Refusal → Resu
 valued f (Ok x) = Ok (f x)
 valued f (Err e) = Err e
 
--- an answer of a call that was lent no row
+-- the answer of a call that was lent no row
 abbrev pub without_row : Result Value Refusal → Answer
-without_row r = record { result = r; row = no_row }
+without_row r = record { result = r; row = None }
 
 pub record Performed (h : History) (q : Request) (a : Answer) (h' : History) : Type 0 where
   -- refused exactly if a refusal holds, and with the number of the first

@@ -4,7 +4,6 @@ ghost use Rattle.std.specs.Prelude.{◌≡◌};
 ghost use Rattle.promise.specs.Requests.{without_row};
 
 use causality::{CausalOrder, Place};
-use counting::NO_ROW;
 use gathering::Row;
 use history::Refusal;
 
@@ -46,11 +45,11 @@ pub enum Value {
     Ordered(CausalOrder),
 }
 
-/// What a call answered, and what it left in the row that it was lent: zeros if it was lent none.
+/// What a call answered, and what it left in the row that it was lent, if it was lent one.
 #[derive(Clone, Copy, PartialEq, Eq, Debug)]
 pub struct Answer {
     pub result: Result<Value, Refusal>,
-    pub row: Row,
+    pub row: Option<Row>,
 }
 
 /// An answer of a call that is lent no row.
@@ -60,7 +59,7 @@ impl From<Result<Value, Refusal>> for Answer {
     fn from(res: Result<Value, Refusal>) -> Answer {
         Answer {
             result: res,
-            row: NO_ROW,
+            row: None,
         }
     }
 }

@@ -41,7 +41,7 @@ fn stamp<F: Clock, R: Clock>(c: &Correlator<F, R>, p: Place, d: u16, lent: Lent)
     let done = c.stamp(p, d, &mut row.counts[0..len]);
     Answer {
         result: done.map(|()| Value::Done),
-        row,
+        row: Some(row),
     }
 }
 
