@@ -1,3 +1,4 @@
+pub mod Reached
 pub mod Columns
 pub mod Results
 pub mod Orders

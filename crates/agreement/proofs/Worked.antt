@@ -12,20 +12,15 @@ use Rattle.causality.specs.Worked.{worked, rearrived as other-worked}
 use Rattle.causality.proofs.Traces.{before_rises, past_is_before, accepted_is_orderly}
 use Rattle.history.specs.declared.Stage.{Stage}
 use Rattle.history.specs.History.{History, Operations, idle, no_operations, with_operation, named, members_of}
-use Rattle.history.specs.Calls.{Call, next_history}
+use Rattle.history.specs.Calls.{Call, next_history, history_after}
 use Rattle.history.specs.Answers.{OrderOf}
-use Rattle.history.proofs.Lawful.{histories_lawful}
-use Rattle.history.proofs.Members.{histories_hold}
 use Rattle.history.proofs.Named.{named-low}
 use Rattle.relating.specs.Walks.{walk, Related}
 use Rattle.relating.proofs.Related.{walks_related}
 use Rattle.agreement.specs.Agreement.{Reached, RelationOf}
-use Rattle.agreement.specs.Worked.{history_after, place, setup, pick, rest, arrivals, gatherings, rearrivals, traced, whole, rearrived, JobAnswers, WorkedAnswers}
+use Rattle.agreement.specs.Worked.{place, setup, pick, rest, arrivals, gatherings, rearrivals, traced, whole, rearrived, JobAnswers, WorkedAnswers}
+use Rattle.agreement.proofs.Reached.{reached}
 use Rattle.agreement.proofs.Columns.{only_nodes}
-
-reached_after : (h : History) → Reached h → (cs : List Call) → Reached (history_after h cs)
-reached_after h reached [] = reached
-reached_after h reached (c ∷ cs) = reached_after (next_history h c) (record { lawful = histories_lawful.1 h c reached.lawful; members = histories_hold.1 h c reached.members }) cs
 
 -- ---- relations
 
@@ -124,7 +119,7 @@ rearrived-is =
     (refl, (refl, (refl, (refl, (refl, (refl, (refl, (refl, (refl, (refl, (refl, (refl, (refl, tt)))))))))))))
 
 whole-reached : Reached (full worked 1 2 4 6)
-whole-reached = subst Reached whole_is (reached_after traced (reached_after idle (record { lawful = histories_lawful.0; members = histories_hold.0 }) arrivals) (Call.receive 3 7 ∷ gatherings))
+whole-reached = subst Reached whole_is (reached (arrivals ++ Call.receive 3 7 ∷ gatherings))
 
 -- ---- what they answer
 

@@ -9,17 +9,15 @@
 --   SameOperation h X k X'   the operation X of h and the operation X' of k have members at the same places
 --   RelationOf h r X Y a     a is an answer of relation r between the operations X and Y: its verdict says whether the
 --                             relation holds over all pairs of members, its steps the rank of the comparison that decided it
---   Answered h c r Right      the result r of call c is right by the history h: refused exactly if the refusals of h say so,
---                             and as they say, and else an answer that is Right
-use Rattle.std.specs.Prelude.{◌≡◌, ℕ, Bool, true, false, List, ◌∷◌, IfOk, Some, Result}
+use Rattle.std.specs.Prelude.{◌≡◌, ℕ, Bool, true, false, List, ◌∷◌, Some, Result}
 use Rattle.causality.specs.declared.CausalOrder.{CausalOrder}
 use Rattle.causality.specs.declared.Place.{Place}
 use Rattle.causality.specs.Limits.{is_node}
 use Rattle.causality.specs.Columns.{column}
 use Rattle.history.specs.declared.refusal.Refusal.{Refusal}
 use Rattle.history.specs.History.{History, is_idle, is_open, is_closed, members_of}
-use Rattle.history.specs.Calls.{Call, refusal}
-use Rattle.history.specs.Answers.{reason, OrderOf, stamped, cut_row}
+use Rattle.history.specs.Calls.{Call}
+use Rattle.history.specs.Answers.{Answered, OrderOf, stamped, cut_row}
 use Rattle.history.specs.Lawful.{Lawful}
 use Rattle.history.specs.Members.{MembersHeld}
 use Rattle.relating.specs.Walks.{Related}
@@ -48,9 +46,6 @@ abbrev pub RelationOf : History → ℕ → List ℕ → List ℕ → Bool × �
 RelationOf h r X Y answer =
     (x : ℕ) (xs : List ℕ) (y : ℕ) (ys : List ℕ) → members_of h X ≡ Some (x ∷ xs) → members_of h Y ≡ Some (y ∷ ys) →
     Related r h.events h.nodes x xs y ys answer
-
-abbrev pub Answered : {X : Type 0} → History → Call → Result X Refusal → (X → Type 0) → Type 0
-Answered h c r Right = (reason r ≡ refusal h c) × IfOk r Right
 
 -- ---- equal columns, equal answers
 

@@ -4,7 +4,6 @@
 --
 -- Everything is worked out from the arguments of the calls, made one after another on a correlator just made.
 --
---   history_after h cs   the history after the calls cs, refused or not, made one after another from h
 --   traced               the job's eight events
 --   whole                after one more receive, which is refused, the trace is closed, and three operations are gathered:
 --                        SETUP of 1.2 and 2.1, PICK of 3.2, REST of 1.3
@@ -15,13 +14,9 @@ use Rattle.causality.specs.declared.Place.{Place}
 use Rattle.history.specs.declared.refusal.Refusal.{Refusal}
 use Rattle.history.specs.Refusals.{number}
 use Rattle.history.specs.History.{History, idle, members_of}
-use Rattle.history.specs.Calls.{Call, refusal, next_history}
-use Rattle.history.specs.Answers.{OrderOf, stamped, cut_row}
-use Rattle.agreement.specs.Agreement.{RelationOf, Answered, SameColumns}
-
-abbrev pub history_after : History → List Call → History
-history_after h [] = h
-history_after h (c ∷ cs) = history_after (next_history h c) cs
+use Rattle.history.specs.Calls.{Call, refusal, history_after}
+use Rattle.history.specs.Answers.{Answered, OrderOf, stamped, cut_row}
+use Rattle.agreement.specs.Agreement.{RelationOf, SameColumns}
 
 -- the place i.k
 abbrev pub place : ℕ → ℕ → Place

@@ -3,12 +3,12 @@ use Rattle.std.proofs.Common.{◌≡◌, ℕ, true, false, length, Some, None, O
 use Rattle.std.proofs.lemmas.Bool.{not-false, and_parts, leb-false, ne_eqb, eqb-false}
 use Rattle.causality.specs.declared.Event.{Event}
 use Rattle.causality.specs.Limits.{is_node}
-use Rattle.causality.specs.Traces.{sends, receives, was_sent}
+use Rattle.causality.specs.Traces.{was_sent}
 use Rattle.causality.proofs.Newest.{nothing}
 use Rattle.history.specs.declared.refusal.Refusal.{Refusal}
-use Rattle.history.specs.History.{History, is_full, was_received}
+use Rattle.history.specs.History.{History, was_received}
 use Rattle.history.specs.Calls.{Call, refusals, refusal, with_event, after, next_history}
-use Rattle.history.specs.Lawful.{Fits, Lawful, May, HistoriesLawful}
+use Rattle.history.specs.Lawful.{Lawful, May, HistoriesLawful}
 use Rattle.history.proofs.Passed.{passed}
 
 pub may_lawful : (h : History) (v : Event) → Lawful h → May h v → Lawful (with_event h v)

@@ -2,6 +2,7 @@
 --
 --   Obeys h c r Right h'   call c found the history h: it is refused exactly when the refusals of h say so, and as they say,
 --                          it leaves h', the history after c, and what it answers when accepted is Right
+--   Answered h c r Right   of that, how call c is answered
 --   next_place h a         the place that the next event of node a has
 --   Compared vs x y o      o tells how event x stands to event y
 --   stamped, cut_row       what a stamp and a cut leave in the row that they are lent
@@ -26,6 +27,9 @@ pub record Obeys {X : Type 0} (h : History) (c : Call) (r : Result X Refusal) (R
   pub refuses : reason r ≡ refusal h c
   pub leaves : h' ≡ next_history h c
   pub answers : IfOk r Right
+
+abbrev pub Answered : {X : Type 0} → History → Call → Result X Refusal → (X → Type 0) → Type 0
+Answered h c r Right = (reason r ≡ refusal h c) × IfOk r Right
 
 -- ---- events and their order
 

@@ -99,3 +99,8 @@ after h (Call.relate r x y) = h
 -- the history after a call, refused or not
 abbrev pub next_history : History → Call → History
 next_history h c = cond (is_none (refusal h c)) (after h c) h
+
+-- the history after calls made one after another, refused or not
+abbrev pub history_after : History → List Call → History
+history_after h [] = h
+history_after h (c ∷ cs) = history_after (next_history h c) cs

@@ -1,13 +1,14 @@
 -- A text that is played up to a line, and one line more.
-use Rattle.std.proofs.Common.{◌≡◌, ℕ, ◌+◌, ◌*◌, ◌≤◌, List, [], ◌∷◌, ◌++◌, length, take, Option, Result, sym, refl, ap, ◌∙◌, subst, append_assoc, append-nil, add-zero, arith, length-append}
+use Rattle.std.proofs.Common.{◌≡◌, ℕ, ◌+◌, ◌*◌, ◌≤◌, List, [], ◌∷◌, ◌++◌, length, map, take, Option, Result, sym, refl, ap, ◌∙◌, subst, append_assoc, append-nil, add-zero, arith, length-append}
 use Rattle.std.specs.List.{AllByRecursion}
-use Rattle.std.proofs.lemmas.List.{nil_from_length}
+use Rattle.std.proofs.lemmas.List.{map-append, nil_from_length}
 use Rattle.answer_lines.specs.declared.Output.{Output}
 use Rattle.answer_lines.specs.Output.{Wrote, Writes}
 use Rattle.answer_lines.proofs.Writes.{writes_then}
 use Rattle.causality.specs.declared.CausalOrder.{CausalOrder}
 use Rattle.history.specs.declared.refusal.Refusal.{Refusal}
-use Rattle.history.specs.Calls.{next_history}
+use Rattle.history.specs.Calls.{next_history, history_after}
+use Rattle.history.proofs.Calls.{after_push}
 use Rattle.history.specs.History.{History, idle}
 use Rattle.job_text.specs.Lines.{Cut, Uncut}
 use Rattle.job_text.specs.Texts.{Lawful, spelt}
@@ -17,12 +18,12 @@ use Rattle.line_forms.specs.declared.forms.Line.{Line}
 use Rattle.line_forms.proofs.Unique.{unique}
 use Rattle.play.specs.declared.text.PlayRefusal.{PlayRefusal}
 use Rattle.play.specs.declared.text.PlayRefusal.TheVariants.{TooLong, Malformed, ShortOut}
-use Rattle.play.specs.Plays.{Answered, Correlated, LinePlayed, Plays, Unfit, history_after, refusal_bytes, report_bytes}
+use Rattle.play.specs.Plays.{Answered, Correlated, LinePlayed, Plays, Unfit, refusal_bytes, report_bytes}
 use Rattle.play.specs.Reports.{Reported, call_of}
 
 -- ---- one line more
 
-plays_push : (h : History) (k : ℕ) (ls : List Line) (bs : List ℕ) (l : Line) (r : Result (Option CausalOrder) Refusal) → Plays h k ls bs → Reported (history_after h ls) l r → Plays h k (ls ++ l ∷ []) (bs ++ report_bytes (k + length ls) r)
+plays_push : (h : History) (k : ℕ) (ls : List Line) (bs : List ℕ) (l : Line) (r : Result (Option CausalOrder) Refusal) → Plays h k ls bs → Reported (history_after h (map call_of ls)) l r → Plays h k (ls ++ l ∷ []) (bs ++ report_bytes (k + length ls) r)
 plays_push h k [] bs l r p q = (r, [], q, ap (λ b. b ++ report_bytes (k + 0) r) p ∙ ap (λ n. report_bytes n r) (add-zero k) ∙ sym (append-nil (report_bytes k r)), refl)
 plays_push h k (m ∷ ls) bs l r p q =
     let n : k + length (m ∷ ls) ≡ (k + 1) + length ls = omega arith in (
@@ -32,10 +33,6 @@ plays_push h k (m ∷ ls) bs l r p q =
       ap (λ b. b ++ report_bytes (k + length (m ∷ ls)) r) p.3 ∙ append_assoc (report_bytes k p.0) p.1 _ ∙ ap (λ n. report_bytes k p.0 ++ (p.1 ++ report_bytes n r)) n,
       plays_push (next_history h (call_of m)) (k + 1) ls p.1 l r p.4 q,
     )
-
-after_push : (h : History) (ls : List Line) (l : Line) → history_after h (ls ++ l ∷ []) ≡ next_history (history_after h ls) (call_of l)
-after_push h [] l = refl
-after_push h (m ∷ ls) l = after_push (next_history h (call_of m)) ls l
 
 -- nothing is written for a line that has no report
 wrote_none : (out : List ℕ) (at : ℕ) → at ≤ length out → Wrote out at [] out at
@@ -54,7 +51,7 @@ pub record Going (h : History) (done : List Line) (start o : Output) (h' : Histo
   pub bytes : List ℕ
   pub plays : Plays h 1 done bytes
   pub writes : Writes start bytes o
-  pub after : h' ≡ history_after h done
+  pub after : h' ≡ history_after h (map call_of done)
 
 -- k lines of the text are done, and `left` is what is left of it
 pub record Playing (text : List ℕ) (n k : ℕ) (left : List ℕ) (h : History) (start o : Output) (h' : History) : Type 0 where
@@ -94,7 +91,7 @@ done_all {n = n} {h = h} {h' = h'} {start = start} {o = o} p none zero room =
       bytes = g.bytes;
       plays = subst (λ ls. Plays h 1 ls g.bytes) (sym lines) g.plays;
       wrote = subst (λ (i : ℕ). Wrote start.out.now i g.bytes o.out.now o.at) zero g.writes.wrote;
-      after = subst (λ ls. h' ≡ history_after h ls) (sym lines) g.after;
+      after = subst (λ ls. h' ≡ history_after h (map call_of ls)) (sym lines) g.after;
     }
 
 -- the memory of the output is what the output has of it
@@ -127,7 +124,7 @@ one_more {k = k} {h = h} call p cut read room l =
             bytes = g.bytes ++ report_bytes (1 + length p.done) l.report;
             plays = plays_push h 1 p.done g.bytes call l.report g.plays (subst (λ x. Reported x call l.report) g.after l.reported);
             writes = writes_then g.bytes _ g.writes (writes_as (ap (λ n. report_bytes n l.report) number) l.writes);
-            after = l.after ∙ ap (λ x. next_history x (call_of call)) g.after ∙ sym (after_push h p.done call);
+            after = l.after ∙ ap (λ x. next_history x (call_of call)) g.after ∙ sym (ap (history_after h) (map-append call_of p.done (call ∷ [])) ∙ after_push h (map call_of p.done) (call_of call));
           };
     }
 

@@ -4,7 +4,6 @@
 -- history that its call finds, and the bytes are those of the answer's lines. Here these are only put one after another.
 --
 --   report_bytes k r        the bytes of what is reported of line k
---   history_after h ls      the history after the calls of the lines ls, refused or not, made one after another from h
 --   Plays h k ls bs         from the history h on, the lines ls, of which the first is line k, are answered by the bytes bs
 --   LinePlayed ..           what is done for one line
 --   Answered ..             the text is lawful, the output has room for it, and was written as its lines are answered
@@ -14,12 +13,12 @@
 --   number_of e             the number of the refusal of a text
 --   refusal_bytes e         the line that tells of it
 --   Correlated ..           what `correlate` writes
-use Rattle.std.specs.Prelude.{◌≡◌, ℕ, ◌+◌, ◌*◌, ◌<◌, ◌≤◌, List, [], ◌∷◌, ◌++◌, length, Some, None, Ok, Err, Option, Result}
+use Rattle.std.specs.Prelude.{◌≡◌, ℕ, ◌+◌, ◌*◌, ◌<◌, ◌≤◌, List, [], ◌∷◌, ◌++◌, length, map, Some, None, Ok, Err, Option, Result}
 use Rattle.answer_lines.specs.Output.{Wrote, Writes, order_line, refused_line, refused_text}
 use Rattle.answer_lines.specs.declared.Output.{Output}
 use Rattle.causality.specs.declared.CausalOrder.{CausalOrder}
 use Rattle.history.specs.declared.refusal.Refusal.{Refusal}
-use Rattle.history.specs.Calls.{next_history}
+use Rattle.history.specs.Calls.{next_history, history_after}
 use Rattle.history.specs.History.{History, idle}
 use Rattle.history.specs.Refusals.{number}
 use Rattle.job_text.specs.Texts.{Breaks, Lawful, TooMuch}
@@ -35,10 +34,6 @@ abbrev pub report_bytes : ℕ → Result (Option CausalOrder) Refusal → List �
 report_bytes k (Ok None) = []
 report_bytes k (Ok (Some o)) = order_line k o
 report_bytes k (Err e) = refused_line k (number e)
-
-abbrev pub history_after : History → List Line → History
-history_after h [] = h
-history_after h (l ∷ ls) = history_after (next_history h (call_of l)) ls
 
 -- one line after another: the bytes of its report, and then those of the lines behind it
 abbrev pub Plays : History → ℕ → List Line → List ℕ → Type 0
@@ -68,7 +63,7 @@ pub record Answered (h : History) (text old : List ℕ) (to : ℕ) (new : List �
   pub bytes : List ℕ
   pub plays : Plays h 1 lawful.all.lines bytes
   pub wrote : Wrote old 0 bytes new to
-  pub after : h' ≡ history_after h lawful.all.lines
+  pub after : h' ≡ history_after h (map call_of lawful.all.lines)
 
 -- too long, or else malformed, or else lawful and with too little room
 abbrev pub Unfit : List ℕ → ℕ → PlayRefusal → Type 0

@@ -1,12 +1,12 @@
 -- The call that a line of the job text spells, and what is reported of it, given the history that it finds.
-use Rattle.std.specs.Prelude.{◌≡◌, IfOk, Some, None, Option, Result}
+use Rattle.std.specs.Prelude.{◌≡◌, Some, None, Option, Result}
 use Rattle.causality.specs.declared.CausalOrder.{CausalOrder}
 use Rattle.line_forms.specs.declared.forms.Line.{Line}
 use Rattle.line_forms.specs.declared.forms.Line.TheVariants.{Nodes, Local, Send, Receive, Meet, Order}
 use Rattle.history.specs.declared.refusal.Refusal.{Refusal}
 use Rattle.history.specs.History.{History}
-use Rattle.history.specs.Calls.{Call, refusal}
-use Rattle.history.specs.Answers.{reason, OrderOf}
+use Rattle.history.specs.Calls.{Call}
+use Rattle.history.specs.Answers.{Answered, OrderOf}
 
 abbrev pub call_of : Line → Call
 call_of (Nodes n) = Call.start n
@@ -27,4 +27,4 @@ Tells h (Order p q) o = (x : CausalOrder) × (o ≡ Some x) × OrderOf h p q x
 
 -- what is reported of a line: its call's refusal, if the history that it finds refuses it, or else what it has to tell
 abbrev pub Reported : History → Line → Result (Option CausalOrder) Refusal → Type 0
-Reported h l r = (reason r ≡ refusal h (call_of l)) × IfOk r (Tells h l)
+Reported h l r = Answered h (call_of l) r (Tells h l)

@@ -1,34 +1,28 @@
 -- What a run keeps, and what two runs agree on.
-use Rattle.std.proofs.Common.{◌≡◌, ℕ, zero, suc, List, [], ◌∷◌, ◌++◌, length, take, drop, IfOk, Some, None, Option, Ok, Err, Result, sym, refl, ap, ◌∙◌, subst, arith}
+use Rattle.std.proofs.Common.{◌≡◌, ℕ, zero, suc, List, [], ◌∷◌, ◌++◌, length, map, take, drop, IfOk, Some, None, Option, Ok, Err, Result, sym, refl, ap, ◌∙◌, subst, arith}
 use Rattle.std.specs.Option.{option_map}
-use Rattle.agreement.specs.Agreement.{Answered, Reached}
+use Rattle.agreement.specs.Agreement.{Reached}
+use Rattle.agreement.proofs.Reached.{reached}
 use Rattle.agreement.proofs.Orders.{orders-agree}
 use Rattle.agreement.proofs.Rows.{stamps_agree}
 use Rattle.causality.specs.declared.CausalOrder.{CausalOrder}
 use Rattle.causality.proofs.Newest.{nothing}
 use Rattle.history.specs.declared.refusal.Refusal.{Refusal}
 use Rattle.history.specs.History.{History, idle}
-use Rattle.history.specs.Calls.{Call, refusal, next_history}
-use Rattle.history.specs.Answers.{reason, OrderOf, stamped}
-use Rattle.history.proofs.Lawful.{histories_lawful}
-use Rattle.history.proofs.Members.{histories_hold}
+use Rattle.history.specs.Calls.{Call, refusal, next_history, history_after}
+use Rattle.history.specs.Answers.{Answered, reason, OrderOf, stamped}
 use Rattle.promise.specs.declared.requests.Answer.{Answer}
 use Rattle.promise.specs.declared.requests.Lent.{Lent}
 use Rattle.promise.specs.declared.requests.Request.{Request}
 use Rattle.promise.specs.declared.requests.Value.{Value}
 use Rattle.promise.specs.Requests.{call_of, lent_of, lent_length, with_lent, written, Right, Performed}
-use Rattle.promise.specs.Runs.{nth, history_after, found, Ran, Run}
+use Rattle.promise.specs.Runs.{nth, found, Ran, Run}
 use Rattle.promise.specs.Promise.{Kept, Agree, Promise, Both}
 
 -- ---- one run
 
-after_reached : (h : History) (qs : List Request) → Reached h → Reached (history_after h qs)
-after_reached h [] reached = reached
-after_reached h (q ∷ qs) reached =
-    after_reached (next_history h (call_of q)) qs (record { lawful = histories_lawful.1 h (call_of q) reached.lawful; members = histories_hold.1 h (call_of q) reached.members })
-
 found_reached : (qs : List Request) (k : ℕ) → Reached (found qs k)
-found_reached qs k = after_reached idle (take k qs) (record { lawful = histories_lawful.0; members = histories_hold.0 })
+found_reached qs k = reached (map call_of (take k qs))
 
 ran_count : (h : History) (qs : List Request) (rs : List Answer) → Ran h qs rs → length rs ≡ length qs
 ran_count h [] [] r = refl
@@ -37,7 +31,7 @@ ran_count h (q ∷ qs) [] r = absurd r
 ran_count h (q ∷ qs) (a ∷ rs) (_, more) = ap suc (ran_count (next_history h (call_of q)) qs rs more)
 
 ran_each : (h : History) (qs : List Request) (rs : List Answer) → Ran h qs rs → (k : ℕ) (q : Request) (a : Answer) → nth qs k ≡ Some q → nth rs k ≡ Some a →
-    Performed (history_after h (take k qs)) q a (next_history (history_after h (take k qs)) (call_of q))
+    Performed (history_after h (map call_of (take k qs))) q a (next_history (history_after h (map call_of (take k qs))) (call_of q))
 ran_each h [] rs r k q a e f = absurd (nothing e)
 ran_each h (x ∷ qs) [] r k q a e f = absurd r
 ran_each h (x ∷ qs) (b ∷ rs) (one, more) zero q a e f =

@@ -1,12 +1,11 @@
 -- Requests made one after another on a correlator just made.
 --
 --   nth xs k               the element of number k, from 0 and the first
---   history_after h qs     the history after the requests qs, refused or not, made from h on
 --   found qs k             the history that the request of number k finds: what the k requests before it left
 --   Ran h qs as            from the history h on, the requests qs are answered by as, each by the history that it finds
-use Rattle.std.specs.Prelude.{◌≡◌, ℕ, zero, suc, ◌<◌, List, [], ◌∷◌, length, take, drop, Some, None, Ok, Err, Option, Result}
+use Rattle.std.specs.Prelude.{◌≡◌, ℕ, zero, suc, ◌<◌, List, [], ◌∷◌, length, map, take, drop, Some, None, Ok, Err, Option, Result}
 use Rattle.history.specs.History.{History, idle}
-use Rattle.history.specs.Calls.{next_history}
+use Rattle.history.specs.Calls.{next_history, history_after}
 use Rattle.promise.specs.declared.requests.Answer.{Answer}
 use Rattle.promise.specs.declared.requests.Request.{Request}
 use Rattle.promise.specs.declared.runs.Short.{Short}
@@ -17,12 +16,8 @@ nth [] k = None
 nth (x ∷ xs) zero = Some x
 nth (x ∷ xs) (suc k) = nth xs k
 
-abbrev pub history_after : History → List Request → History
-history_after h [] = h
-history_after h (q ∷ qs) = history_after (next_history h (call_of q)) qs
-
 abbrev pub found : List Request → ℕ → History
-found qs k = history_after idle (take k qs)
+found qs k = history_after idle (map call_of (take k qs))
 
 abbrev pub Ran : History → List Request → List Answer → Type 0
 Ran h [] [] = Unit {0}
