@@ -4,15 +4,12 @@ ghost use Rattle.arrayvec.specs.ArrayVec.{array_vec_len};
 ghost use Rattle.std.specs.Prelude.{◌≤◌, length};
 
 use arrayvec::ArrayVec;
-use causality::{Event, MAX_EVENTS};
+use causality::{EVENTS, Event};
 use history::Stage;
 use records::Messages;
 
 pub mod checks;
 pub mod events;
-
-/// How many events a trace keeps room for.
-pub const EVENTS: usize = MAX_EVENTS as usize;
 
 /// A trace: its stage and nodes, its events from the oldest on, and the messages that these sent.
 #[derive(Drop)]
