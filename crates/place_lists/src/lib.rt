@@ -5,9 +5,8 @@ ghost use Rattle.std.specs.Prelude.{◌≡◌, List, length, drop, MatchOption};
 ghost use Rattle.causality.specs.declared.Place.{Place};
 ghost use Rattle.place_lists.specs.Lists.{Lists, Stores};
 
-pub use history::MAX_PLACES;
-
 use causality::Place;
+pub use history::MAX_PLACES;
 use line_parts::{read_place, strip};
 
 /// How many places the bytes list; none if they are no list.

@@ -14,5 +14,5 @@ pub returns : goal.returns
 returns c = only_at_end _ c.in_ok-q.rest.now c.then_some.ensures c.is_empty.ensures
     (λ e. let last = whole c.in_ok-q.ensures e in search (rules, last))
     (λ some p q sp sq e.
-        let same = same_place c.in_ok-q.ensures (place_end q sq (ap (drop 4) (sym c.in_ok-rest.ensures ∙ (same_place c.in_ok-p.ensures (place_space p _ refl sp e)).1))) in
-        search (rules, same))
+    let same = same_place c.in_ok-q.ensures (place_end q sq (ap (drop 4) (sym c.in_ok-rest.ensures ∙ (same_place c.in_ok-p.ensures (place_space p _ refl sp e)).1))) in
+    search (rules, same))
