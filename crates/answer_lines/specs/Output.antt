@@ -1,5 +1,7 @@
 -- What a writer does to its output, and the bytes of each line of an answer, as the format shows them.
 --
+--   line_room         the most bytes of a line
+--   HasRoom o         an output has room for a line behind what is written
 --   Wrote ..          what was written stays, the bytes follow it, and what lies behind is as it was
 --   Writes old bs new   the same of an output, which is still the same memory
 --   refused_line      line=L refused=R
@@ -12,6 +14,12 @@ use Rattle.std.specs.Prelude.{◌≡◌, ℕ, ◌+◌, ◌≤◌, Bool, true, fa
 use Rattle.answer_lines.specs.declared.Output.{Output}
 use Rattle.causality.specs.declared.CausalOrder.{CausalOrder}
 use Rattle.causality.specs.declared.CausalOrder.TheVariants.{Before, After, Same, Concurrent}
+
+abbrev pub line_room : ℕ
+line_room = 32
+
+abbrev pub HasRoom : Output → Type 0
+HasRoom o = o.at + line_room ≤ length o.out.now
 
 -- from `old`, written up to `at`, to `new`, written up to `to`: what was written stays, `bs` follows it, and what lies behind is as it was
 pub record Wrote (old : List ℕ) (at : ℕ) (bs : List ℕ) (new : List ℕ) (to : ℕ) : Type 0 where

@@ -1,11 +1,14 @@
 //! The lines of an answer, written one behind another.
 #![tactic(auto)]
 
-ghost use Rattle.std.specs.Prelude.{◌≡◌, ◌+◌, ◌<◌, ◌≤◌, [], ◌∷◌, ◌++◌, length, decimal};
-ghost use Rattle.answer_lines.specs.Output.{Writes, order_line, refused_line, refused_text, verdict_line, word, yes_or_no};
+ghost use Rattle.std.specs.Prelude.{◌≡◌, ◌+◌, ◌<◌, ◌≤◌, ◌++◌, length, decimal};
+ghost use Rattle.answer_lines.specs.Output.{HasRoom, Writes, line_room, order_line, refused_line, refused_text, verdict_line, word, yes_or_no};
 
 use causality::CausalOrder;
 use itoa::Buffer;
+
+/// The most bytes of a line.
+pub const LINE_ROOM: usize = 32;
 
 /// An output, and how far it is written.
 #[derive(Drop)]
@@ -19,9 +22,9 @@ pub struct Output<'a> {
 impl<'a> Output<'a> {
     /// Writes `line=L refused=R`.
     pub fn put_refused(&mut self, line: u16, number: u8)
-        requires { self.old.at + 32 ≤ length self.old.out.now }
+        requires { HasRoom self.old }
         ensures writes { Writes self.old (refused_line line number) self.new }
-        ensures room { self.new.at ≤ self.old.at + 32 }
+        ensures room { self.new.at ≤ self.old.at + line_room }
     {
         self.put_field(b"line=", line);
         self.put_field(b" refused=", u16::from(number));
@@ -30,9 +33,9 @@ impl<'a> Output<'a> {
 
     /// Writes `refused=R`, for a text that is refused as a whole.
     pub fn put_refused_text(&mut self, number: u8)
-        requires { self.old.at + 32 ≤ length self.old.out.now }
+        requires { HasRoom self.old }
         ensures writes { Writes self.old (refused_text number) self.new }
-        ensures room { self.new.at ≤ self.old.at + 32 }
+        ensures room { self.new.at ≤ self.old.at + line_room }
     {
         self.put_field(b"refused=", u16::from(number));
         self.put(b"\n");
@@ -40,9 +43,9 @@ impl<'a> Output<'a> {
 
     /// Writes `line=L answer=W`.
     pub fn put_order(&mut self, line: u16, answer: CausalOrder)
-        requires { self.old.at + 32 ≤ length self.old.out.now }
+        requires { HasRoom self.old }
         ensures writes { Writes self.old (order_line line answer) self.new }
-        ensures room { self.new.at ≤ self.old.at + 32 }
+        ensures room { self.new.at ≤ self.old.at + line_room }
     {
         self.put_field(b"line=", line);
         self.put(b" answer=");
@@ -52,9 +55,9 @@ impl<'a> Output<'a> {
 
     /// Writes `line=L answer=V steps=S`. Up to 999 steps it has at most 32 bytes.
     pub fn put_verdict(&mut self, line: u16, verdict: bool, steps: u16)
-        requires { (self.old.at + 32 ≤ length self.old.out.now) × (steps < 1000) }
+        requires { HasRoom self.old × (steps < 1000) }
         ensures writes { Writes self.old (verdict_line line verdict steps) self.new }
-        ensures room { self.new.at ≤ self.old.at + 32 }
+        ensures room { self.new.at ≤ self.old.at + line_room }
     {
         self.put_field(b"line=", line);
         self.put(b" answer=");

@@ -17,7 +17,7 @@ use records::{MAX_OPERATIONS, Operation, Operations};
 pub fn operation_named<'a>(table: &'a Operations, name: &[u8]) -> Option<&'a Operation>
     ensures { MatchOption result (kept_members table.now name.now ≡ None) (λ o. (is_name name.now ≡ true) × (operation_of table.now (packed name.now) ≡ Some o.now)) }
 {
-    table.get_ref(key_of(name)?)
+    table.get_ref(pack(name)?)
 }
 
 /// The packed name of an operation that may be added, or why it may not.
@@ -27,7 +27,7 @@ pub fn check_new(table: &Operations, name: &[u8]) -> Result<u64, Refusal>
     ensures room { OnOk result (length table.now < 32) }
     ensures fresh { IfOk result (λ k. operation_of table.now k ≡ None) }
 {
-    let key = key_of(name).ok_or(Refusal::BadName)?;
+    let key = pack(name).ok_or(Refusal::BadName)?;
     if table.get_ref(key).is_some() {
         return Err(Refusal::NameTaken);
     }
@@ -35,11 +35,4 @@ pub fn check_new(table: &Operations, name: &[u8]) -> Result<u64, Refusal>
         return Err(Refusal::OperationsFull);
     }
     Ok(key)
-}
-
-// A name as a number; none of what is no name.
-fn key_of(name: &[u8]) -> Option<u64>
-    ensures { MatchOption result (is_name name.now ≡ false) (λ k. (is_name name.now ≡ true) × (k ≡ packed name.now)) }
-{
-    pack(name)
 }

@@ -1,5 +1,6 @@
 -- How the number of lines goes on from one line to the next.
-use Rattle.std.proofs.Common.{◌≡◌, ℕ, zero, suc, ◌+◌, ◌≤◌, cond, eqb, List, [], ◌∷◌, ◌++◌, length, get_or, refl, ap, arith}
+use Rattle.std.proofs.Common.{◌≡◌, ℕ, zero, suc, ◌+◌, ◌-◌, ◌<◌, ◌≤◌, Bool, false, not, Option, None, Some, MatchOption, cond, eqb, List, [], ◌∷◌, ◌++◌, length, get_or, refl, ap, arith}
+use Rattle.std.specs.Borrow.{Bor}
 use Rattle.std.specs.List.{count_by}
 use Rattle.std.proofs.lemmas.List.Recursion.{is_sum_by}
 use Rattle.std.proofs.lemmas.Bool.Decides.{nat_tests}
@@ -43,3 +44,9 @@ tail-last (b ∷ []) zero long = refl
 tail-last (b ∷ []) (suc k) long = absurd (omega arith)
 tail-last (b ∷ c ∷ x) zero long = absurd (omega arith)
 tail-last (b ∷ c ∷ x) (suc k) long = tail-last (c ∷ x) k (omega arith)
+
+-- a last byte that is no 0A counts one
+pub last_counts : {P : Bor ℕ → Type 0} (x : List ℕ) (o : Option (Bor ℕ)) (r : Bool) → MatchOption o (length x ≡ 0) (λ l. (0 < length x) × (l.now ≡ get_or x (length x - 1) 0)) → MatchOption o (r ≡ false) P → ((l : Bor ℕ) → P l → r ≡ not (eqb l.now 10)) → cond r 1 0 ≡ tail x
+last_counts [] None r e h k = rw h refl
+last_counts (b ∷ x) None r e h k = absurd (omega arith)
+last_counts x (Some l) r e h k = let t = tail-last x (length x - 1) (let s = e.0 in omega arith) in let is = k l h in grind (arith, nat_tests)

@@ -25,18 +25,13 @@ pub enum Fault {
 pub fn check_text(text: &[u8]) -> Result<u16, Fault>
     ensures { Checked text.now result }
 {
-    if text.len() > MAX_BYTES {
-        return Err(Fault::TooLong);
-    }
     let lines = count_lines(text);
-    if lines > MAX_LINES {
+    if text.len() > MAX_BYTES || lines > MAX_LINES {
         return Err(Fault::TooLong);
     }
     let mut good: u16 = 0;
     for line in Reader::new(text) {
-        let Some(_) = read_line(line) else {
-            return Err(Fault::Malformed(good + 1));
-        };
+        read_line(line).ok_or(Fault::Malformed(good + 1))?;
         good += 1;
     }
     if usize::from(good) == lines {
@@ -56,8 +51,6 @@ fn count_lines(text: &[u8]) -> usize
     ensures { result ≡ line_count text.now }
 {
     let ends = text.iter().filter(|b| **b == b'\n').count();
-    match text.last() {
-        Some(last) if *last != b'\n' => ends + 1,
-        _ => ends,
-    }
+    let tail = text.last().is_some_and(|last| *last != b'\n');
+    ends + usize::from(tail)
 }

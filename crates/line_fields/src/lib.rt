@@ -17,7 +17,7 @@ pub fn one_number(s: &[u8]) -> Option<u16>
     ensures { MatchOption result ((n : ℕ) → Small n → s.now ≢ decimal n) (λ n. Small n × (s.now ≡ decimal n)) }
 {
     let (n, rest) = read_number(s)?;
-    if rest.is_empty() { Some(n) } else { None }
+    rest.is_empty().then_some(n)
 }
 
 /// A number, the key, which begins with a space, and a number.
@@ -38,7 +38,7 @@ pub fn two_places(s: &[u8]) -> Option<(Place, Place)>
     let (p, rest) = read_place(s)?;
     let rest = strip(rest, b" to=")?;
     let (q, rest) = read_place(rest)?;
-    if rest.is_empty() { Some((p, q)) } else { None }
+    rest.is_empty().then_some((p, q))
 }
 
 /// A name, ` to=` and a name.
@@ -48,7 +48,7 @@ fn two_names(s: &[u8]) -> Option<(&[u8], &[u8])>
     let (x, rest) = read_name(s)?;
     let rest = strip(rest, b" to=")?;
     let (y, rest) = read_name(rest)?;
-    if rest.is_empty() { Some((x, y)) } else { None }
+    rest.is_empty().then_some((x, y))
 }
 
 /// A name, ` at=` and a list of places: the name and the bytes of the list.

@@ -5,7 +5,7 @@ ghost use Rattle.std.specs.Prelude.{◌≡◌, MatchOption, ◌≢◌};
 
 use causality::Place;
 use line_fields::{one_number, two_numbers, two_places};
-use line_heads::{Head, head_of};
+use line_heads::{Key, head_of};
 
 /// One line of the job text.
 #[derive(Clone, Copy, PartialEq, Eq, Debug)]
@@ -28,27 +28,28 @@ pub enum Line {
 pub fn read_line(line: &[u8]) -> Option<Line>
     ensures { MatchOption result ((l : Line) → Sound l → line.now ≢ written l) (λ l. Sound l × (line.now ≡ written l)) }
 {
-    match head_of(line)? {
-        Head::Nodes(rest) => Some(Line::Nodes(one_number(rest)?)),
-        Head::Local(rest) => Some(Line::Local(one_number(rest)?)),
-        Head::Send(rest) => {
+    let (key, rest) = head_of(line)?;
+    Some(match key {
+        Key::Nodes => Line::Nodes(one_number(rest)?),
+        Key::Local => Line::Local(one_number(rest)?),
+        Key::Send => {
             let (node, message) = two_numbers(rest, b" msg=")?;
-            Some(Line::Send(node, message))
+            Line::Send(node, message)
         }
-        Head::Receive(rest) => {
+        Key::Receive => {
             let (node, message) = two_numbers(rest, b" msg=")?;
-            Some(Line::Receive(node, message))
+            Line::Receive(node, message)
         }
-        Head::Meet(rest) => {
+        Key::Meet => {
             let (node, other) = two_numbers(rest, b" with=")?;
-            Some(Line::Meet(node, other))
+            Line::Meet(node, other)
         }
-        Head::Order(rest) => {
+        Key::Order => {
             let (from, to) = two_places(rest)?;
-            Some(Line::Order(from, to))
+            Line::Order(from, to)
         }
-        Head::Close(_) | Head::Op(_) | Head::Ask(_) => None,
-    }
+        Key::Close | Key::Op | Key::Ask => return None,
+    })
 }
 
 /// States that no two lines are spelt alike.

@@ -4,43 +4,43 @@
 ghost use Rattle.line_heads.specs.Heads.{NoKey, Splits};
 ghost use Rattle.std.specs.Prelude.{MatchOption};
 
-/// The key that a line begins with, and what follows it.
-#[derive(Clone, Copy)]
-pub enum Head<'a> {
+/// The keys of the lines.
+#[derive(Clone, Copy, PartialEq, Eq, Debug)]
+pub enum Key {
     /// `nodes=`
-    Nodes(&'a [u8]),
+    Nodes,
     /// `local=`
-    Local(&'a [u8]),
+    Local,
     /// `send=`
-    Send(&'a [u8]),
+    Send,
     /// `recv=`
-    Receive(&'a [u8]),
+    Receive,
     /// `meet=`
-    Meet(&'a [u8]),
+    Meet,
     /// `close=`
-    Close(&'a [u8]),
+    Close,
     /// `op=`
-    Op(&'a [u8]),
+    Op,
     /// `order=`
-    Order(&'a [u8]),
+    Order,
     /// `ask=`
-    Ask(&'a [u8]),
+    Ask,
 }
 
-/// Splits a line behind its key; none if it begins with no key.
-pub fn head_of<'a>(line: &'a [u8]) -> Option<Head<'a>>
-    ensures { MatchOption result (NoKey line.now) (Splits line.now) }
+/// The key that a line begins with, and what follows it; none if it begins with no key.
+pub fn head_of(line: &[u8]) -> Option<(Key, &[u8])>
+    ensures { MatchOption result (NoKey line.now) (λ h. Splits line.now h.0 h.1.now) }
 {
     match line {
-        [b'n', b'o', b'd', b'e', b's', b'=', rest @ ..] => Some(Head::Nodes(rest)),
-        [b'l', b'o', b'c', b'a', b'l', b'=', rest @ ..] => Some(Head::Local(rest)),
-        [b's', b'e', b'n', b'd', b'=', rest @ ..] => Some(Head::Send(rest)),
-        [b'r', b'e', b'c', b'v', b'=', rest @ ..] => Some(Head::Receive(rest)),
-        [b'm', b'e', b'e', b't', b'=', rest @ ..] => Some(Head::Meet(rest)),
-        [b'c', b'l', b'o', b's', b'e', b'=', rest @ ..] => Some(Head::Close(rest)),
-        [b'o', b'p', b'=', rest @ ..] => Some(Head::Op(rest)),
-        [b'o', b'r', b'd', b'e', b'r', b'=', rest @ ..] => Some(Head::Order(rest)),
-        [b'a', b's', b'k', b'=', rest @ ..] => Some(Head::Ask(rest)),
+        [b'n', b'o', b'd', b'e', b's', b'=', rest @ ..] => Some((Key::Nodes, rest)),
+        [b'l', b'o', b'c', b'a', b'l', b'=', rest @ ..] => Some((Key::Local, rest)),
+        [b's', b'e', b'n', b'd', b'=', rest @ ..] => Some((Key::Send, rest)),
+        [b'r', b'e', b'c', b'v', b'=', rest @ ..] => Some((Key::Receive, rest)),
+        [b'm', b'e', b'e', b't', b'=', rest @ ..] => Some((Key::Meet, rest)),
+        [b'c', b'l', b'o', b's', b'e', b'=', rest @ ..] => Some((Key::Close, rest)),
+        [b'o', b'p', b'=', rest @ ..] => Some((Key::Op, rest)),
+        [b'o', b'r', b'd', b'e', b'r', b'=', rest @ ..] => Some((Key::Order, rest)),
+        [b'a', b's', b'k', b'=', rest @ ..] => Some((Key::Ask, rest)),
         _ => None,
     }
 }

@@ -1,5 +1,5 @@
 -- Numbers and places at the front of a list: there is at most one, and the digits in front spell it.
-use Rattle.std.proofs.Common.{◌≡◌, ℕ, ◌<◌, ◌≤◌, Bool, false, not, cond, eqb, ltb, Decides, List, [], ◌∷◌, ◌++◌, Option, Some, None, Result, Ok, Err, MatchOption, MatchResult, length, get_or, take, drop, decimal, sym, refl, ap, ◌∙◌, inl, inr, subst, append_assoc, append-nil, one-add, arith, take-append-drop}
+use Rattle.std.proofs.Common.{◌≡◌, ℕ, ◌<◌, ◌≤◌, Bool, true, false, not, cond, eqb, ltb, List, [], ◌∷◌, ◌++◌, Option, Some, None, Result, Ok, Err, MatchOption, MatchResult, length, get_or, take, drop, decimal, sym, refl, ap, ◌∙◌, inl, inr, subst, append_assoc, append-nil, one-add, arith, take-append-drop}
 use Rattle.causality.specs.declared.Place.{Place}
 use Rattle.std.specs.Result.{result_ok}
 use Rattle.std.specs.Option.{unwrap_or}
@@ -8,8 +8,10 @@ use Rattle.std.specs.Str.Parse.{AllDigits, ParsesUnsigned, digits_value, without
 use Rattle.std.specs.List.{AllByRecursion, position_or_len}
 use Rattle.std.proofs.lemmas.Fmt.{decimal-digits_value, digits_decimal, decimal_digit, decimal_nonempty, first_decimal, decimal_injective, parse-decimal, IsAscii-decimal}
 use Rattle.std.proofs.lemmas.Str.{IsUtf8-from_ascii}
-use Rattle.std.proofs.ByRecursion.{All-from_get_or}
+use Rattle.std.proofs.ByRecursion.{All-from_get_or, All-weaker}
 use Rattle.std.proofs.lemmas.Str.Parse.{digit_at, numerals_by_value, tells_digits, IsNumeralModel}
+use Rattle.std.specs.Char.{is_ascii_digit}
+use Rattle.std.proofs.lemmas.Bool.Decides.{nat_tests}
 use Rattle.std.proofs.lemmas.Bool.{both_ways, cases_Bool, cases_lt, lt-ltb, le-ltb, ne_eqb}
 use Rattle.std.proofs.lemmas.List.Sums.{prefix_len-le-length}
 use Rattle.line_parts.specs.Parts.{At, Digit, NumberAt, PlaceAt, Run, Small, SoundPlace, placed}
@@ -138,16 +140,16 @@ kept P Q x (Err f) e h = cc
 abbrev pub run_len : (ℕ → Bool) → List ℕ → ℕ
 run_len test s = position_or_len (λ b. not (test b)) s
 
-module _ (C : ℕ → Type 0) (test : ℕ → Bool) (decides : (b : ℕ) → Decides (test b) (C b)) (none : C 0 → ⊥) where
-  run_cut : (s : List ℕ) → AllByRecursion C (take (run_len test s) s) × (C (get_or (drop (run_len test s) s) 0 0) → ⊥)
-  run_cut [] = (tt, none)
+module _ (test : ℕ → Bool) (none : test 0 ≡ false) where
+  run_cut : (s : List ℕ) → AllByRecursion (λ b. test b ≡ true) (take (run_len test s) s) × (test (get_or (drop (run_len test s) s) 0 0) ≡ true → ⊥)
+  run_cut [] = (tt, λ y. both_ways _ none y)
   run_cut (b ∷ s) =
       elim (cases_Bool (test b)) [
-        | inl y ↦ let r = run_cut s in rw (y, one-add) (((decides b).0 y, r.0), r.1)
-        | inr n ↦ rw n (tt, λ c. both_ways _ n ((decides b).1 c))
+        | inl y ↦ let r = run_cut s in rw (y, one-add) ((y, r.0), r.1)
+        | inr n ↦ rw n (tt, λ y. both_ways _ n y)
       ]
 
-  pub run : (s : List ℕ) (r : Option ℕ) (n : ℕ) → r ≡ cond (ltb (run_len test s) (length s)) (Some (run_len test s)) None → n ≡ unwrap_or r (length s) → Run C s (take n s) (drop n s)
+  pub run : (s : List ℕ) (r : Option ℕ) (n : ℕ) → r ≡ cond (ltb (run_len test s) (length s)) (Some (run_len test s)) None → n ≡ unwrap_or r (length s) → Run (λ b. test b ≡ true) s (take n s) (drop n s)
   run s r n e f =
       let le = prefix_len-le-length (λ b. not (not (test b))) s in
       let at : n ≡ run_len test s = elim (cases_lt (run_len test s) (length s)) [
@@ -157,6 +159,18 @@ module _ (C : ℕ → Type 0) (test : ℕ → Bool) (decides : (b : ℕ) → Dec
       let r = run_cut s in
       record { whole = take-append-drop n s; all = rw at r.0; stops = rw at r.1 }
 
+-- bytes that pass the test of digits are digits
+pub run_digits : {s front rest : List ℕ} → Run (λ b. is_ascii_digit b ≡ true) s front rest → Run Digit s front rest
+run_digits {front = front} h = record {
+  whole = h.whole;
+  all = All-weaker (λ b. is_ascii_digit b ≡ true) Digit (λ b y. grind (arith, nat_tests)) front h.all;
+  stops = λ d. h.stops (grind (arith, nat_tests));
+}
+
 -- where the digits in front spell no number, no number stands in front
 pub no_number : {s ds rest : List ℕ} → Run Digit s ds rest → ((n : ℕ) → Small n → ds ≡ decimal n → ⊥) → (n : ℕ) (t : List ℕ) → NumberAt s n t → ⊥
 no_number {ds = ds} {rest = rest} h none n t k = none n k.sound (same_run Digit ds (decimal n) rest t h.all (all_digits n k.sound) h.stops k.stops (h.whole ∙ k.spelt)).0
+
+-- where they spell one, it stands in front
+pub number_here : {s ds rest : List ℕ} {n : ℕ} → Run Digit s ds rest → Small n × (ds ≡ decimal n) → NumberAt s n rest
+number_here {rest = rest} h read = record { sound = read.0; spelt = sym h.whole ∙ ap (λ l. l ++ rest) read.1; stops = h.stops }

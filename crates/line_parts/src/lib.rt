@@ -1,9 +1,9 @@
 //! Readers of the parts of a line of the job text: each takes the bytes and gives a value and what follows it.
 #![tactic(auto)]
 
-ghost use Rattle.std.specs.Prelude.{◌≡◌, ℕ, List, ◌++◌, decimal, MatchOption, ◌≢◌};
+ghost use Rattle.std.specs.Prelude.{◌≡◌, ℕ, Bool, false, true, List, ◌++◌, decimal, MatchOption, ◌≢◌};
 ghost use Rattle.causality.specs.declared.Place.{Place};
-ghost use Rattle.line_parts.specs.Parts.{Digit, Letter, NameAt, NumberAt, PlaceAt, Run, Small};
+ghost use Rattle.line_parts.specs.Parts.{NameAt, NumberAt, PlaceAt, Run, Small};
 
 use causality::Place;
 use names::{MAX_NAME, is_letter};
@@ -12,19 +12,8 @@ use names::{MAX_NAME, is_letter};
 pub fn read_number(s: &[u8]) -> Option<(u16, &[u8])>
     ensures { MatchOption result ((n : ℕ) (rest : List ℕ) → NumberAt s.now n rest → ⊥) (λ x. NumberAt s.now x.0 x.1.now) }
 {
-    let (digits, rest) = split_digits(s);
+    let (digits, rest) = split_while(s, |b| b.is_ascii_digit());
     Some((value_of(digits)?, rest))
-}
-
-/// The digits in front, and what follows them.
-fn split_digits(s: &[u8]) -> (&[u8], &[u8])
-    ensures { Run Digit s.now result.0.now result.1.now }
-{
-    let end = s
-        .iter()
-        .position(|b| !b.is_ascii_digit())
-        .unwrap_or(s.len());
-    s.split_at(end)
 }
 
 /// The number that the bytes spell: at most the largest `u16`, and its first digit is not 0.
@@ -52,7 +41,7 @@ pub fn read_place(s: &[u8]) -> Option<(Place, &[u8])>
 pub fn read_name(s: &[u8]) -> Option<(&[u8], &[u8])>
     ensures { MatchOption result ((name rest : List ℕ) → NameAt s.now name rest → ⊥) (λ x. NameAt s.now x.0.now x.1.now) }
 {
-    let (name, rest) = split_letters(s);
+    let (name, rest) = split_while(s, is_letter);
     if name.is_empty() || name.len() > MAX_NAME {
         None
     } else {
@@ -60,11 +49,12 @@ pub fn read_name(s: &[u8]) -> Option<(&[u8], &[u8])>
     }
 }
 
-/// The letters in front, and what follows them.
-fn split_letters(s: &[u8]) -> (&[u8], &[u8])
-    ensures { Run Letter s.now result.0.now result.1.now }
+/// The bytes in front that pass the test, and what follows them.
+fn split_while<F: Fn(u8) -> bool>(s: &[u8], test: F) -> (&[u8], &[u8])
+    requires { F.IsAlwaysCallable test }
+    ensures { (passes : ℕ → Bool) → ((b : ℕ) (r : Bool) → F.post test b r → r ≡ passes b) → passes 0 ≡ false → Run (λ b. passes b ≡ true) s.now result.0.now result.1.now }
 {
-    let end = s.iter().position(|b| !is_letter(*b)).unwrap_or(s.len());
+    let end = s.iter().position(|b| !test(*b)).unwrap_or(s.len());
     s.split_at(end)
 }
 

@@ -1,5 +1,5 @@
 -- A name in eight places, and the number that they write.
-use Rattle.std.proofs.Common.{◌≡◌, ℕ, zero, suc, ◌+◌, ◌*◌, ◌^◌, ◌<◌, ◌≤◌, true, false, ◌&&◌, leb, ◌⊎◌, List, [], ◌∷◌, ◌++◌, length, get_or, drop, replicate, sym, refl, ◌∙◌, inl, inr, arith}
+use Rattle.std.proofs.Common.{◌≡◌, ℕ, zero, suc, ◌+◌, ◌*◌, ◌^◌, ◌<◌, ◌≤◌, true, false, ◌&&◌, leb, List, [], ◌∷◌, ◌++◌, length, get_or, drop, replicate, sym, refl, ◌∙◌, inl, inr, arith}
 use Rattle.std.specs.List.{list_all}
 use Rattle.std.proofs.lemmas.List.{at_drop_more, drop_all, get_or_past, get_or-drop}
 use Rattle.std.proofs.lemmas.List.Recursion.{same_from_clauses}
@@ -9,9 +9,14 @@ use Rattle.names.specs.Names.{value, packed}
 
 -- ---- what is a name
 
-pub no_name : (bs : List ℕ) → (length bs < 1) ⊎ (8 < length bs) → is_name bs ≡ false
-no_name bs (inl h) = and_left (leb 1 (length bs)) _ (lt-leb 1 (length bs) h)
-no_name bs (inr h) = and_right (leb 1 (length bs)) _ (and_left (leb (length bs) 8) _ (lt-leb (length bs) 8 h))
+pub no_name : (bs : List ℕ) → (1 ≤ length bs → length bs ≤ 8 → ⊥) → is_name bs ≡ false
+no_name bs unfit = elim (cases_lt (length bs) 1) [
+  | inl h ↦ and_left (leb 1 (length bs)) _ (lt-leb 1 (length bs) h)
+  | inr some ↦ elim (cases_lt 8 (length bs)) [
+    | inl h ↦ and_right (leb 1 (length bs)) _ (and_left (leb (length bs) 8) _ (lt-leb (length bs) 8 h))
+    | inr few ↦ absurd (unfit some few)
+  ]
+]
 
 pub no_letters : (bs : List ℕ) → all_letters bs ≡ false → is_name bs ≡ false
 no_letters bs h = and_right (leb 1 (length bs)) _ (and_right (leb (length bs) 8) _ h)

@@ -3,12 +3,12 @@
 
 ghost use Rattle.history.specs.History.{is_letter, is_name};
 ghost use Rattle.names.specs.Names.{PackingKeeps, PackingOrders, PackingTells, packed};
-ghost use Rattle.std.specs.Prelude.{◌≡◌, if◌then◌else◌, Some, None};
+ghost use Rattle.std.specs.Prelude.{◌≡◌, false, true, MatchOption};
+
+pub use history::MAX_NAME;
 
 /// The fewest bytes of a name.
 const MIN_NAME: usize = 1;
-/// The most bytes of a name.
-pub const MAX_NAME: usize = history::MAX_NAME;
 
 /// Whether a byte may stand in a name: A to Z or 0 to 9.
 pub fn is_letter(b: u8) -> bool
@@ -19,12 +19,12 @@ pub fn is_letter(b: u8) -> bool
 
 /// A name as one number of eight bytes, first byte highest, padded at the end with zeros; none of what is no name.
 pub fn pack(name: &[u8]) -> Option<u64>
-    ensures { result ≡ (if is_name name.now then Some (packed name.now) else None) }
+    ensures { MatchOption result (is_name name.now ≡ false) (λ n. (is_name name.now ≡ true) × (n ≡ packed name.now)) }
 {
-    if name.len() < MIN_NAME || name.len() > MAX_NAME || !name.iter().all(|b| is_letter(*b)) {
+    if !(MIN_NAME..=MAX_NAME).contains(&name.len()) || !name.iter().all(|b| is_letter(*b)) {
         return None;
     }
-    let mut places = [0; 8];
+    let mut places = [0; MAX_NAME];
     places[..name.len()].copy_from_slice(name);
     Some(u64::from_be_bytes(places))
 }

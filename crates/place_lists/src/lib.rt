@@ -1,15 +1,13 @@
 //! Lists of places, as a line of the job text has them: `1.1,2.4,3.2`.
 #![tactic(auto)]
 
-ghost use Rattle.std.specs.Prelude.{◌≡◌, ℕ, List, length, drop, MatchOption};
+ghost use Rattle.std.specs.Prelude.{◌≡◌, List, length, drop, MatchOption};
 ghost use Rattle.causality.specs.declared.Place.{Place};
 ghost use Rattle.place_lists.specs.Lists.{Lists, Stores};
 
 use causality::Place;
+pub use history::MAX_PLACES;
 use line_parts::{read_place, strip};
-
-/// The most places of a list.
-pub const MAX_PLACES: usize = history::MAX_PLACES;
 
 /// How many places the bytes list; none if they are no list.
 pub fn count_places(list: &[u8]) -> Option<usize>

@@ -1,19 +1,25 @@
-use Rattle.std.proofs.Common.{◌≡◌, ◌<◌, [], length, refl, subst, rules, arith}
+use Rattle.std.proofs.Common.{◌≡◌, ◌+◌, ◌<◌, None, Some, Err, [], length, refl, subst, rules, arith}
 use Rattle.job_text.specs.Texts.{Begins}
+use Rattle.job_text.specs.declared.scan.Fault.TheVariants.{Malformed}
 use Rattle.job_text.proofs.Counts.{count_le, count-line, no_lines}
 use Rattle.job_text.proofs.Cuts.{cut_shorter}
 use Rattle.job_text.proofs.Texts.{begin_more, none-line, none_tail}
 use Rattle.job_text.proofs.scan.check_text.Goals as goal
 
-pub returns-in_default : goal.returns-in_default
-returns-in_default c =
+pub returns-in_err-ok_or : goal.returns-in_err-ok_or
+returns-in_err-ok_or c =
     let cut = c.in-Some.ensures.steps in
-    record { bytes = search rules; few = search rules; good = _; next = refl; rest = _; before = c.loop-line.invariant.0; some = search (rules, cut_shorter); none = none-line cut c.in_default.ensures }
+    let none : c.read_line.result ≡ None = search rules in
+    let unread = rw none at c.read_line.ensures in
+    let is : c.from_residual.result ≡ Err (Malformed (c.loop-line.good + 1)) = search rules in
+    rw is (record { bytes = search rules; few = search rules; good = _; next = refl; rest = _; before = c.loop-line.invariant.0; some = search (rules, cut_shorter); none = none-line cut unread })
 
 pub loop-line-preserved : goal.loop-line-preserved
 loop-line-preserved c =
     let cut = c.in-Some.ensures.steps in
-    (begin_more c.in-Some-read_line.field-0 c.loop-line.invariant.0 c.in-Some-read_line.ensures cut, count-line c.loop-line.good cut c.loop-line.invariant.1)
+    let some : c.read_line.result ≡ Some c.in_ok-ok_or.field-0 = search rules in
+    let read = rw some at c.read_line.ensures in
+    (begin_more c.in_ok-ok_or.field-0 c.loop-line.invariant.0 read cut, count-line c.loop-line.good cut c.loop-line.invariant.1)
 
 pub returns-then-from-lines : goal.returns-then-from-lines
 returns-then-from-lines c =
