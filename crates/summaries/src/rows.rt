@@ -10,7 +10,7 @@ ghost use Rattle.records.specs.Summaries.{at_node};
 ghost use Rattle.summaries.specs.Rows.{from_column_end, own_count, own_row, own_row_of};
 
 use causality::Event;
-use clock::{Clock, stands};
+use clock::Clock;
 use counting::NO_ROW;
 use gathering::{Joining, Row, gather_by};
 use std::array;
@@ -53,7 +53,7 @@ fn own_row<C: Clock>(clock: &C, event: Event, e: u16) -> Row
 fn own_count<C: Clock>(clock: &C, event: Event, e: u16, i: u16) -> u16
     ensures { result ≡ own_count (C.Clock.means clock.now) event e i }
 {
-    if stands(event.node(), event.partner(), i) {
+    if event.stands(i) {
         clock.count(e, i).unwrap_or(0)
     } else {
         0

@@ -7,6 +7,7 @@ ghost use Rattle.std.specs.Prelude.{◌≡◌, length};
 use crate::members::Members;
 use crate::rows::{bounds, from_end, own_row_of};
 use crate::trace::Trace;
+use causality::from_last;
 use clock::Clock;
 use counting::row_of;
 use gathering::{Earliest, Greatest, Least};
@@ -29,7 +30,7 @@ pub fn summarize<F: Clock, R: Clock>(
     let (joint_past, whole_past) = bounds::<Least, Greatest, _>(held, |e| row_of(trace.forward, e));
     let (least, greatest) = bounds::<Least, Greatest, _>(
         held,
-        |e| row_of(trace.reverse, trace.from_last(e)),
+        |e| row_of(trace.reverse, from_last(trace.len(), e)),
     );
     let ends = trace.lengths();
     Operation {

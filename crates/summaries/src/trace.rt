@@ -1,10 +1,10 @@
 //! A trace that both clocks took.
 
-ghost use Rattle.std.specs.Prelude.{◌≡◌, ◌-◌, ◌≤◌, length};
+ghost use Rattle.std.specs.Prelude.{◌≡◌, ◌≤◌, length};
 ghost use Rattle.causality.specs.Limits.{max_events};
 ghost use Rattle.summaries.specs.Rows.{column_length, length-row};
 
-use causality::Event;
+use causality::{Event, from_last};
 use clock::Clock;
 use gathering::Row;
 use std::array;
@@ -19,13 +19,11 @@ pub struct Trace<'a, F, R> {
 }
 
 impl<F: Clock, R: Clock> Trace<'_, F, R> {
-    // Event e, counted from the last one; and back.
-    pub(crate) fn from_last(&self, e: u16) -> u16
-        ensures { result ≡ length self.now.events.now - 1 - e }
+    // How many events there are.
+    pub(crate) fn len(&self) -> u16
+        ensures { result ≡ length self.now.events.now }
     {
-        (self.events.len() as u16)
-            .saturating_sub(1)
-            .saturating_sub(e)
+        self.events.len() as u16
     }
 
     // How many events each node has.
@@ -42,7 +40,7 @@ impl<F: Clock, R: Clock> Trace<'_, F, R> {
         ensures { result ≡ column_length (F.Clock.means self.now.forward.now) (R.Clock.means self.now.reverse.now) (length self.now.events.now) i }
     {
         match self.reverse.at(i, 1) {
-            Some(e) => self.forward.count(self.from_last(e), i).unwrap_or(0),
+            Some(e) => self.forward.count(from_last(self.len(), e), i).unwrap_or(0),
             None => 0,
         }
     }
