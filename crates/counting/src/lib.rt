@@ -42,5 +42,5 @@ pub fn joint_counts<C: Clock, J: Joining<u16>>(clock: &C, entries: &[u16]) -> Op
 pub fn joined_row<J: Joining<Row>>(rows: &[Row]) -> Row
     ensures { result ≡ or_zeros (joined_all J.Joining.op rows.now) }
 {
-    gather::<Row, J>(rows).unwrap_or(NO_ROW)
+    gather::<Row, J>(rows).unwrap_or_default()
 }

@@ -35,19 +35,16 @@ fn twice(row: Row) -> (Row, Row)
 pub(crate) fn own_row_of<C: Clock>(clock: &C, events: &[Event], e: u16) -> Row
     ensures { result ≡ own_row_of (C.Clock.means clock.now) events.now e }
 {
-    match events.get(e as usize) {
-        Some(event) => own_row(clock, *event, e),
-        None => NO_ROW,
-    }
+    events
+        .get(e as usize)
+        .map_or(NO_ROW, |event| own_row(clock, *event, e))
 }
 
 // The counts of an event at its own nodes; 0 at the others.
 fn own_row<C: Clock>(clock: &C, event: Event, e: u16) -> Row
     ensures { result ≡ own_row (C.Clock.means clock.now) event e }
 {
-    Row {
-        counts: array::from_fn(|i| own_count(clock, event, e, i as u16 + 1)),
-    }
+    Row::at_nodes(|i| own_count(clock, event, e, i))
 }
 
 fn own_count<C: Clock>(clock: &C, event: Event, e: u16, i: u16) -> u16

@@ -7,7 +7,6 @@ ghost use Rattle.summaries.specs.Rows.{column_length, length-row};
 use causality::{Event, from_last};
 use clock::Clock;
 use gathering::Row;
-use std::array;
 
 /// A trace that two clocks took, one of them from its last event to its first.
 pub struct Trace<'a, F, R> {
@@ -30,18 +29,15 @@ impl<F: Clock, R: Clock> Trace<'_, F, R> {
     pub(crate) fn lengths(&self) -> Row
         ensures { result ≡ length-row (F.Clock.means self.now.forward.now) (R.Clock.means self.now.reverse.now) (length self.now.events.now) }
     {
-        Row {
-            counts: array::from_fn(|i| self.column_length(i as u16 + 1)),
-        }
+        Row::at_nodes(|i| self.column_length(i))
     }
 
     // How many events node i has: the index of its last event, which the reverse clock has as its first.
     fn column_length(&self, i: u16) -> u16
         ensures { result ≡ column_length (F.Clock.means self.now.forward.now) (R.Clock.means self.now.reverse.now) (length self.now.events.now) i }
     {
-        match self.reverse.at(i, 1) {
-            Some(e) => self.forward.count(from_last(self.len(), e), i).unwrap_or(0),
-            None => 0,
-        }
+        let events = self.len();
+        let last = self.reverse.at(i, 1).map(|e| from_last(events, e));
+        last.and_then(|e| self.forward.count(e, i)).unwrap_or(0)
     }
 }
