@@ -2,7 +2,7 @@
 
 ghost use Rattle.summaries.specs.Members.{listed};
 ghost use Rattle.summaries.specs.Summed.{Summed};
-ghost use Rattle.std.specs.Prelude.{◌≡◌, length};
+ghost use Rattle.std.specs.Prelude.{◌≡◌};
 
 use crate::members::Members;
 use crate::rows::{bounds, from_end, own_row_of};
@@ -20,7 +20,7 @@ pub fn summarize<F: Clock, R: Clock>(
     members: &Members,
 ) -> Operation
     ensures name { result.name ≡ name }
-    ensures summed { Summed (F.Clock.means trace.now.forward.now) (R.Clock.means trace.now.reverse.now) trace.now.events.now (length trace.now.events.now) (listed members.now) result }
+    ensures summed { Summed (F.Clock.means trace.now.forward.now) (R.Clock.means trace.now.reverse.now) trace.now.events.now (listed members.now) result }
 {
     let held = &members.events[..members.len as usize];
     let (first, last) = bounds::<Earliest, Greatest, _>(
