@@ -176,11 +176,7 @@ impl Clock for LinkClock {
     }
 
     fn count(&self, e: u16, i: u16) -> Option<u16> {
-        if knows(self.nodes, self.len(), e, i) {
-            Some(self.walk(e, i))
-        } else {
-            None
-        }
+        knows(self.nodes, self.len(), e, i).then(|| self.walk(e, i))
     }
 
     fn at(&self, i: u16, k: u16) -> Option<u16> {

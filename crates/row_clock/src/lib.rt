@@ -1,12 +1,12 @@
 //! A clock that keeps the row of counts of each entry and the column of each node, so that a question is one look-up.
 #![tactic(auto)]
 
-ghost use Rattle.std.specs.Prelude.{◌≡◌, ℕ, ◌+◌, ◌<◌, ◌≤◌, max, true, false, ◌∷◌, length, nat_lt, slice_index, slice_index_or};
+ghost use Rattle.std.specs.Prelude.{◌≡◌, ℕ, ◌+◌, ◌<◌, ◌≤◌, true, false, length, slice_index, slice_index_or};
 ghost use Rattle.arrayvec.specs.ArrayVec.{array_vec_len};
 ghost use Rattle.causality.specs.Entries.{is};
 ghost use Rattle.causality.specs.Limits.{max_nodes, is_node};
 ghost use Rattle.clock.specs.Meaning.{max_entries, blank, if_given};
-ghost use Rattle.row_clock.specs.Rows.{no_column, line, rows_mean, Kept, latest_of, cell_of, next_count, Filed};
+ghost use Rattle.row_clock.specs.Rows.{no_column, rows_mean, Kept, latest_of, cell_of, next_count, Filed};
 ghost use Rattle.row_clock.specs.Laws.{rows_lawful};
 
 mod parts;
@@ -73,8 +73,8 @@ impl RowClock {
         requires { is_node max_nodes i ≡ true }
         ensures { result ≡ cell_of self.now.rows.items e i }
     {
-        let row = e.and_then(|e| self.rows.get(e as usize).copied());
-        row.map_or(0, |row| row.counts[i as usize - 1])
+        e.and_then(|e| self.rows.get(e as usize))
+            .map_or(0, |row| row.counts[i as usize - 1])
     }
 
     /// The count at node i of a new entry after its immediate predecessors.
@@ -147,11 +147,7 @@ impl Clock for RowClock {
     }
 
     fn count(&self, e: u16, i: u16) -> Option<u16> {
-        if knows(self.nodes, self.len(), e, i) {
-            Some(self.cell(Some(e), i))
-        } else {
-            None
-        }
+        knows(self.nodes, self.len(), e, i).then(|| self.cell(Some(e), i))
     }
 
     fn at(&self, i: u16, k: u16) -> Option<u16> {
