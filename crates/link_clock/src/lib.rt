@@ -123,16 +123,12 @@ impl LinkClock {
         requires { 1 ≤ k }
         ensures { result ≡ timeline_at (takes_of self.now.links.items (array_vec_len self.now.links)) i k }
     {
-        let mut height = 0;
-        for (x, link) in self.links.iter().enumerate() {
-            if link.entry.stands(i) {
-                height += 1;
-                if height == k {
-                    return Some(x as u16);
-                }
-            }
-        }
-        None
+        let mut standing = self
+            .links
+            .iter()
+            .enumerate()
+            .filter(|(_, link)| link.entry.stands(i));
+        standing.nth(k as usize - 1).map(|(x, _)| x as u16)
     }
 }
 
