@@ -25,6 +25,14 @@ pub struct NewEntry {
     pub prior: Option<u16>,
 }
 
+/// What comes just before an entry, beside the one that it follows by a message: the latest entry at its node, and the latest at
+/// its partner.
+#[derive(Clone, Copy, PartialEq, Eq, Debug, Default)]
+pub struct Predecessors {
+    pub own: Option<u16>,
+    pub other: Option<u16>,
+}
+
 /// A logical clock: nodes counted from 1, and entries counted from 0, each at one node or two, with its causal past.
 pub trait Clock: Sized {
     /// What the clock holds: the number of its nodes, and its entries.

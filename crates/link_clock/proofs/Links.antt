@@ -29,15 +29,15 @@ length_held links k = length-entries (takes_of links k) ∙ length_takes links k
 pub earlier_up : (z k : ℕ) (l : Link) → z ≤ k → earlier z l ≡ true → earlier k l ≡ true
 earlier_up z k l h low =
     let up : (o : Option ℕ) → if_given (λ x. ltb x z) o ≡ true → if_given (λ x. ltb x k) o ≡ true = given_up _ _ (λ x g. lt-ltb x k (omega (arith, ltb-true x z g))) in
-    let (p, q) = and_parts (if_given (λ x. ltb x z) l.own) _ low in
-    let (r, s) = and_parts (if_given (λ x. ltb x z) l.other) _ q in
-    and_from _ _ (up l.own p) (and_from _ _ (up l.other r) (up l.entry.prior s))
+    let (p, q) = and_parts (if_given (λ x. ltb x z) l.before.own) _ low in
+    let (r, s) = and_parts (if_given (λ x. ltb x z) l.before.other) _ q in
+    and_from _ _ (up l.before.own p) (and_from _ _ (up l.before.other r) (up l.entry.prior s))
 
 pub earlier-all : (z : ℕ) (l : Link) → earlier z l ≡ true → AllByRecursion (λ x. x < z) (before l)
 earlier-all z l low =
-    let (p, q) = and_parts (if_given (λ x. ltb x z) l.own) _ low in
-    let (r, s) = and_parts (if_given (λ x. ltb x z) l.other) _ q in
-    All-append _ (option_to_list l.own) _ (each l.own p) (All-append _ (option_to_list l.other) _ (each l.other r) (each l.entry.prior s))
+    let (p, q) = and_parts (if_given (λ x. ltb x z) l.before.own) _ low in
+    let (r, s) = and_parts (if_given (λ x. ltb x z) l.before.other) _ q in
+    All-append _ (option_to_list l.before.own) _ (each l.before.own p) (All-append _ (option_to_list l.before.other) _ (each l.before.other r) (each l.entry.prior s))
   where
     each : (o : Option ℕ) → if_given (λ x. ltb x z) o ≡ true → AllByRecursion (λ x. x < z) (option_to_list o)
     each None g = tt
@@ -78,7 +78,7 @@ linked len links latest_at kept = record { low = λ z l. ∥∥₁_elim kept (Bo
 module _ (len : ℕ) (links : List Link) (latest_at latest_at' : List (Option ℕ)) (a : ℕ) (b m own other : Option ℕ) (all : length links ≡ len) (ok : Admitted len a b m)
     (own_is : own ≡ latest_of latest_at (Some a)) (other_is : other ≡ latest_of latest_at b) (noted : Noted latest_at a b len latest_at') where
   abbrev new : Link
-  new = record { entry = record { node = a; partner = b; prior = m }; own = own; other = other }
+  new = record { entry = record { node = a; partner = b; prior = m }; before = record { own = own; other = other } }
 
   abbrev more : List Link
   more = links ++ (new ∷ [])

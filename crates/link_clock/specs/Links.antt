@@ -23,7 +23,7 @@ use Rattle.clock.specs.Arrays.{listed}
 use Rattle.link_clock.specs.declared.Link.{Link}
 
 abbrev pub no_link : Link
-no_link = record { entry = record { node = 0; partner = None; prior = None }; own = None; other = None }
+no_link = record { entry = record { node = 0; partner = None; prior = None }; before = record { own = None; other = None } }
 
 abbrev pub entry_of : Link → Entry
 entry_of l = asked l.entry.node l.entry.partner l.entry.prior
@@ -35,11 +35,11 @@ abbrev pub links_mean : ℕ → ℕ → List Link → Meaning
 links_mean n len links = meaning n (takes_of links len)
 
 abbrev pub before : Link → List ℕ
-before l = option_to_list l.own ++ (option_to_list l.other ++ option_to_list l.entry.prior)
+before l = option_to_list l.before.own ++ (option_to_list l.before.other ++ option_to_list l.entry.prior)
 
 -- all predecessors are below k
 abbrev pub earlier : ℕ → Link → Bool
-earlier k l = if_given (λ x. nat_lt x k) l.own && (if_given (λ x. nat_lt x k) l.other && if_given (λ x. nat_lt x k) l.entry.prior)
+earlier k l = if_given (λ x. nat_lt x k) l.before.own && (if_given (λ x. nat_lt x k) l.before.other && if_given (λ x. nat_lt x k) l.entry.prior)
 
 -- ---- the predecessors of the entries taken
 

@@ -1,4 +1,4 @@
-//! A clock that keeps only the immediate predecessors of each entry, and walks back over them when asked.
+//! A clock that keeps of each entry only its nodes and its immediate predecessors, and walks back over them when asked.
 #![tactic(auto)]
 
 ghost use Rattle.std.specs.Prelude.{◌≡◌, ◌<◌, ◌≤◌, true, length, nat_lt, slice_index_or};
@@ -11,17 +11,18 @@ ghost use Rattle.link_clock.specs.Links.{no_link, before, earlier, takes_of, lin
 ghost use Rattle.clock.proofs.Takes.{meanings_lawful};
 
 use arrayvec::ArrayVec;
-use clock::{Clock, ENTRIES, MAX_NODES, NODES, NewEntry, admits, is_node, knows};
+use clock::{
+    Clock, ENTRIES, MAX_NODES, NODES, NewEntry, Predecessors, admits, is_node, knows,
+};
 
-/// An entry as it was taken, and its immediate predecessors: beside its prior, the latest at its node and at its partner.
+/// An entry as it was taken, and what came just before it.
 #[derive(Clone, Copy, Default)]
 struct Link {
     entry: NewEntry,
-    own: Option<u16>,
-    other: Option<u16>,
+    before: Predecessors,
 }
 
-/// A clock that keeps the immediate predecessors of each entry, and the latest entry of each node.
+/// A clock that keeps each entry with its immediate predecessors, and the latest entry of each node.
 #[derive(Drop)]
 pub struct LinkClock {
     nodes: u16,
@@ -59,8 +60,8 @@ fn mark_before(marks: &mut [bool; ENTRIES], link: Link)
     requires { earlier max_entries link ≡ true }
     ensures { marks.new ≡ marked marks.old (before link) }
 {
-    mark(marks, link.own);
-    mark(marks, link.other);
+    mark(marks, link.before.own);
+    mark(marks, link.before.other);
     mark(marks, link.entry.prior);
 }
 
@@ -164,10 +165,12 @@ impl Clock for LinkClock {
         if !admits(self.nodes, e, entry) {
             return None;
         }
-        let own = self.latest_at(Some(entry.node));
-        let other = self.latest_at(entry.partner);
+        let before = Predecessors {
+            own: self.latest_at(Some(entry.node)),
+            other: self.latest_at(entry.partner),
+        };
         note(&mut self.latest, entry, e);
-        self.links.push(Link { entry, own, other });
+        self.links.push(Link { entry, before });
         Some(e)
     }
 

@@ -12,8 +12,10 @@ ghost use Rattle.row_clock.specs.Laws.{rows_lawful};
 mod parts;
 
 use arrayvec::ArrayVec;
-use clock::{Clock, ENTRIES, MAX_NODES, NODES, NewEntry, admits, is_node, knows};
-use parts::{Column, Predecessors, Row};
+use clock::{
+    Clock, ENTRIES, MAX_NODES, NODES, NewEntry, Predecessors, admits, is_node, knows,
+};
+use parts::{Column, Row};
 use std::array;
 
 /// A clock that keeps the row of each entry and the column of each node.
@@ -80,20 +82,20 @@ impl RowClock {
     /// The count at node i of a new entry after its immediate predecessors.
     fn next_count(&self, entry: NewEntry, before: Predecessors, i: u16) -> u16
         requires { is_node max_nodes i ≡ true }
-        ensures { result ≡ next_count self.now.rows.items self.now.columns entry.node entry.partner before.own before.other before.prior i }
+        ensures { result ≡ next_count self.now.rows.items self.now.columns entry.node entry.partner before.own before.other entry.prior i }
     {
         if entry.stands(i) {
             self.columns[i as usize - 1].len() as u16 + 1
         } else {
             self.cell(before.own, i)
                 .max(self.cell(before.other, i))
-                .max(self.cell(before.prior, i))
+                .max(self.cell(entry.prior, i))
         }
     }
 
     /// Its counts at all nodes.
     fn next_counts(&self, entry: NewEntry, before: Predecessors) -> [u16; NODES]
-        ensures { (i : ℕ) → i < max_nodes → slice_index result i ≡ next_count self.now.rows.items self.now.columns entry.node entry.partner before.own before.other before.prior (i + 1) }
+        ensures { (i : ℕ) → i < max_nodes → slice_index result i ≡ next_count self.now.rows.items self.now.columns entry.node entry.partner before.own before.other entry.prior (i + 1) }
     {
         array::from_fn(|i| self.next_count(entry, before, i as u16 + 1))
     }
@@ -134,7 +136,6 @@ impl Clock for RowClock {
         let before = Predecessors {
             own: self.latest(Some(entry.node)),
             other: self.latest(entry.partner),
-            prior: entry.prior,
         };
         let counts = self.next_counts(entry, before);
         file(&mut self.columns, entry, e);

@@ -22,7 +22,7 @@ module _ (s : LinkClock) (a : ℕ) (b m : Option ℕ) (h : true ≡ admits s.nod
 
   -- one more link
   grown : (own other : Option ℕ) (latest : List (Option ℕ)) (links : List Link) → own ≡ latest_of s.latest (Some a) → other ≡ latest_of s.latest b → Noted s.latest a b (length s.links.items) latest →
-      links ≡ s.links.items ++ (record { entry = record { node = a; partner = b; prior = m }; own = own; other = other } ∷ []) →
+      links ≡ s.links.items ++ (record { entry = record { node = a; partner = b; prior = m }; before = record { own = own; other = other } } ∷ []) →
       Kept (length links) links latest
       × (links_mean s.nodes (length links) links ≡ taken (links_mean s.nodes (length s.links.items) s.links.items) a b m)
       × (Some (length s.links.items) ≡ number (links_mean s.nodes (length s.links.items) s.links.items) a b m)
@@ -42,8 +42,8 @@ invariant_of-self c =
     let s = c.args.self.now in
     let h = rw c.len-e.ensures at c.if-not-admits.ensures in
     let k = ok s c.args.entry.node c.args.entry.partner c.args.entry.prior h in
-    let (kept, _, _) = grown s c.args.entry.node c.args.entry.partner c.args.entry.prior h c.latest_at-own.result c.latest_at-other.result c.note.new.latest c.push.new.self.items
-    c.latest_at-own.ensures c.latest_at-other.ensures (rw c.len-e.ensures at c.note.ensures.noted) c.push.ensures.items in
+    let (kept, _, _) = grown s c.args.entry.node c.args.entry.partner c.args.entry.prior h c.latest_at.result c.latest_at-2.result c.note.new.latest c.push.new.self.items
+    c.latest_at.ensures c.latest_at-2.ensures (rw c.len-e.ensures at c.note.ensures.noted) c.push.ensures.items in
     record {
       long = c.note.ensures.long ∙ s.long;
       within = (omega (arith, k.room, c.push.ensures.len), s.within.1);
@@ -53,6 +53,6 @@ invariant_of-self c =
 pub returns : goal.returns
 returns c =
     let s = c.args.self.now in
-    let (_, after, value) = grown s c.args.entry.node c.args.entry.partner c.args.entry.prior (rw c.len-e.ensures at c.if-not-admits.ensures) c.latest_at-own.result c.latest_at-other.result c.note.new.latest c.push.new.self.items
-    c.latest_at-own.ensures c.latest_at-other.ensures (rw c.len-e.ensures at c.note.ensures.noted) c.push.ensures.items in
+    let (_, after, value) = grown s c.args.entry.node c.args.entry.partner c.args.entry.prior (rw c.len-e.ensures at c.if-not-admits.ensures) c.latest_at.result c.latest_at-2.result c.note.new.latest c.push.new.self.items
+    c.latest_at.ensures c.latest_at-2.ensures (rw c.len-e.ensures at c.note.ensures.noted) c.push.ensures.items in
     record { after = after; value = ap Some c.len-e.ensures ∙ value }
