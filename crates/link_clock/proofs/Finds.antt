@@ -11,7 +11,7 @@ use Rattle.causality.specs.Entries.{at_either, timeline, at}
 use Rattle.causality.proofs.Newest.{entry_head, entry-tail, entry-kth, entry-mem}
 use Rattle.causality.proofs.Pasts.{at_low}
 use Rattle.link_clock.specs.declared.Link.{Link}
-use Rattle.link_clock.specs.Links.{no_link, takes_of}
+use Rattle.link_clock.specs.Links.{no_link, takes_of, all_takes}
 use Rattle.link_clock.proofs.Links.{length_takes}
 
 -- ---- lists turned round
@@ -48,7 +48,7 @@ module _ (links : List Link) (i : ℕ) where
   abbrev from : ℕ → List ℕ
   from k = map (λ p. p.0) (filter stands_at (enumerate_from k (drop k links)))
 
-  turned : (j k : ℕ) → k + j ≡ length links → timeline (takes_of links (length links)) i ≡ reverse_aux (from k) (timeline (takes_of links k) i)
+  turned : (j k : ℕ) → k + j ≡ length links → timeline (all_takes links) i ≡ reverse_aux (from k) (timeline (takes_of links k) i)
   turned zero k e =
       let end : k ≡ length links = omega arith in
       rw (drop_all k links (omega arith)) (ap (λ n. timeline (takes_of links n) i) (sym end))
@@ -59,16 +59,16 @@ module _ (links : List Link) (i : ℕ) where
         | inr s ↦ rw (drop-cons links k no_link (omega arith), add-one, s) (rw s at rec)
       ]
 
-  pub found-at : (n : ℕ) → option_map (λ p. p.0) (slice_get (filter stands_at (enumerate_from 0 links)) n) ≡ at (takes_of links (length links)) i (n + 1)
+  pub found-at : (n : ℕ) → option_map (λ p. p.0) (slice_get (filter stands_at (enumerate_from 0 links)) n) ≡ at (all_takes links) i (n + 1)
   found-at n =
       let up : n ≡ length {A = ℕ} [] + n = omega arith in
       get-map (λ p. p.0) (filter stands_at (enumerate_from 0 links)) n
       ∙ sym (ap (λ c. entry c n) (turned (length links) 0 (omega arith)) ∙ ap (entry (reverse_aux (from 0) [])) up ∙ entry-turned (from 0) [] n)
-      ∙ sym (entry-kth (timeline (takes_of links (length links)) i) n)
-      ∙ ap (at (takes_of links (length links)) i) (sym (add-one n))
+      ∙ sym (entry-kth (timeline (all_takes links) i) n)
+      ∙ ap (at (all_takes links) i) (sym (add-one n))
 
-  pub found-low : (n x : ℕ) → at (takes_of links (length links)) i (n + 1) ≡ Some x → x < length links
+  pub found-low : (n x : ℕ) → at (all_takes links) i (n + 1) ≡ Some x → x < length links
   found-low n x e =
-      let ts = takes_of links (length links) in
+      let ts = all_takes links in
       let there = sym (entry-kth (timeline ts i) n) ∙ ap (at ts i) (sym (add-one n)) ∙ e in
       omega (arith, at_low ts x i (entry-mem (timeline ts i) n x there), length_takes links (length links))

@@ -7,7 +7,7 @@ ghost use Rattle.arrayvec.specs.ArrayVec.{array_vec_len};
 ghost use Rattle.causality.specs.Entries.{at as timeline_at, stamp};
 ghost use Rattle.causality.specs.Limits.{max_nodes, is_node};
 ghost use Rattle.clock.specs.Meaning.{max_entries, blank, if_given};
-ghost use Rattle.link_clock.specs.Links.{no_link, before, earlier, takes_of, links_mean, Kept, latest_of, Noted, marked, met, visited};
+ghost use Rattle.link_clock.specs.Links.{no_link, before, earlier, all_takes, links_mean, Kept, latest_of, Noted, marked, met, visited};
 ghost use Rattle.clock.proofs.Takes.{meanings_lawful};
 
 use arrayvec::ArrayVec;
@@ -30,7 +30,7 @@ pub struct LinkClock {
     latest: [Option<u16>; NODES],
     ghost long: { length latest ≡ max_nodes },
     ghost within: { (array_vec_len links ≤ max_entries) × (nodes ≤ max_nodes) },
-    ghost kept: { Kept (array_vec_len links) links.items latest },
+    ghost kept: { Kept links.items latest },
 }
 
 /// Entry e is now the latest at its nodes.
@@ -69,7 +69,7 @@ impl LinkClock {
     /// Sets n nodes and no entries.
     fn clear(&mut self, n: u16)
         requires { is_node max_nodes n ≡ true }
-        ensures { links_mean self.new.nodes (array_vec_len self.new.links) self.new.links.items ≡ blank n }
+        ensures { links_mean self.new.nodes self.new.links.items ≡ blank n }
     {
         self.nodes = n;
         self.links.clear();
@@ -108,7 +108,7 @@ impl LinkClock {
     /// How many entries at node i lie in the past of e: one pass from e down to the oldest.
     fn walk(&self, e: u16, i: u16) -> u16
         requires { e < array_vec_len self.now.links }
-        ensures { result ≡ stamp (takes_of self.now.links.items (array_vec_len self.now.links)) e i }
+        ensures { result ≡ stamp (all_takes self.now.links.items) e i }
     {
         let mut marks = [false; ENTRIES];
         marks[e as usize] = true;
@@ -122,7 +122,7 @@ impl LinkClock {
     /// The k-th entry at node i: one pass from the oldest up.
     fn find(&self, i: u16, k: u16) -> Option<u16>
         requires { 1 ≤ k }
-        ensures { result ≡ timeline_at (takes_of self.now.links.items (array_vec_len self.now.links)) i k }
+        ensures { result ≡ timeline_at (all_takes self.now.links.items) i k }
     {
         let mut standing = self
             .links
@@ -134,15 +134,15 @@ impl LinkClock {
 }
 
 impl Clock for LinkClock {
-    ghost means = { λ s. links_mean s.nodes (array_vec_len s.links) s.links.items };
+    ghost means = { λ s. links_mean s.nodes s.links.items };
 
-    ghost own = { λ s. (meanings_lawful s.nodes (takes_of s.links.items (array_vec_len s.links))).own };
+    ghost own = { λ s. (meanings_lawful s.nodes (all_takes s.links.items)).own };
 
-    ghost through = { λ s. (meanings_lawful s.nodes (takes_of s.links.items (array_vec_len s.links))).through };
+    ghost through = { λ s. (meanings_lawful s.nodes (all_takes s.links.items)).through };
 
-    ghost earliest = { λ s. (meanings_lawful s.nodes (takes_of s.links.items (array_vec_len s.links))).earliest };
+    ghost earliest = { λ s. (meanings_lawful s.nodes (all_takes s.links.items)).earliest };
 
-    ghost no_higher = { λ s. (meanings_lawful s.nodes (takes_of s.links.items (array_vec_len s.links))).no_higher };
+    ghost no_higher = { λ s. (meanings_lawful s.nodes (all_takes s.links.items)).no_higher };
 
     fn new() -> LinkClock {
         LinkClock {

@@ -5,7 +5,7 @@ use Rattle.std.proofs.lemmas.Iterator.{YieldsList-from_slice}
 use Rattle.std.proofs.lemmas.Iterator.Consumers.{YieldsList-at, YieldsList-from_enumerate, YieldsList-from_filter, nth_from_yields_List}
 use Rattle.causality.specs.Entries.{at}
 use Rattle.link_clock.specs.declared.Link.{Link}
-use Rattle.link_clock.specs.Links.{takes_of}
+use Rattle.link_clock.specs.Links.{all_takes}
 use Rattle.link_clock.proofs.Finds.{stands_at, found-at, found-low}
 use Rattle.link_clock.proofs.LinkClock.find.Goals as goal
 
@@ -24,4 +24,4 @@ returns c =
     let step : MatchOption c.nth.result (c.map.result ≡ None) (λ p. p.0 < 65536 → c.map.result ≡ Some p.0) = search (rules, tests) in
     let found = ap (option_map (λ (p : ℕ × Link). p.0)) nth ∙ found-at links i (c.args.k - 1) in
     let back : c.args.k - 1 + 1 ≡ c.args.k = omega arith in
-    cast c.nth.result _ c.map.result step found (λ x e. omega (arith, found-low links i (c.args.k - 1) x e, c.args.self.now.within)) ∙ ap (at (takes_of links (length links)) i) back
+    cast c.nth.result _ c.map.result step found (λ x e. omega (arith, found-low links i (c.args.k - 1) x e, c.args.self.now.within)) ∙ ap (at (all_takes links) i) back

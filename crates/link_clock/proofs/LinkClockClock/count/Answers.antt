@@ -3,7 +3,7 @@ use Rattle.std.proofs.Common.{◌≡◌, length, sym, ◌∙◌, rules}
 use Rattle.std.specs.Option.{IfSome}
 use Rattle.causality.specs.Entries.{stamp}
 use Rattle.clock.proofs.Takes.{tally-stamp, count_is}
-use Rattle.link_clock.specs.Links.{takes_of, links_mean}
+use Rattle.link_clock.specs.Links.{all_takes, links_mean}
 use Rattle.link_clock.proofs.Links.{length_held}
 use Rattle.link_clock.proofs.LinkClockClock.count.Goals as goal
 
@@ -14,7 +14,7 @@ returns c =
     let i = c.args.i in
     let links = s.links.items in
     let len = length links in
-    let walked = stamp (takes_of links len) e i in
+    let walked = stamp (all_takes links) e i in
     let same : IfSome c.then.result (λ n. n ≡ walked) = search rules in
-    count_is (links_mean s.nodes len links) len (length_held links len) e i walked c.then.result
-    (c.then.ensures.variant ∙ rw c.len.ensures at c.knows.ensures) same (λ known. sym (tally-stamp (takes_of links len) e i))
+    count_is (links_mean s.nodes links) len (length_held links len) e i walked c.then.result
+    (c.then.ensures.variant ∙ rw c.len.ensures at c.knows.ensures) same (λ known. sym (tally-stamp (all_takes links) e i))
