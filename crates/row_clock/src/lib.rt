@@ -26,7 +26,7 @@ pub struct RowClock {
     columns: [Column; NODES],
     ghost long: { length columns ≡ max_nodes },
     ghost within: { (array_vec_len rows ≤ max_entries) × (nodes ≤ max_nodes) },
-    ghost kept: { Kept (array_vec_len rows) rows.items columns },
+    ghost kept: { Kept rows.items columns },
 }
 
 /// Appends entry e to the columns of its nodes.
@@ -48,7 +48,7 @@ impl RowClock {
     /// Sets n nodes and no entries.
     fn clear(&mut self, n: u16)
         requires { is_node max_nodes n ≡ true }
-        ensures { rows_mean self.new.nodes (array_vec_len self.new.rows) self.new.rows.items ≡ blank n }
+        ensures { rows_mean self.new.nodes self.new.rows.items ≡ blank n }
     {
         self.nodes = n;
         self.rows.clear();
@@ -102,15 +102,15 @@ impl RowClock {
 }
 
 impl Clock for RowClock {
-    ghost means = { λ s. rows_mean s.nodes (array_vec_len s.rows) s.rows.items };
+    ghost means = { λ s. rows_mean s.nodes s.rows.items };
 
-    ghost own = { λ s. (rows_lawful s.nodes (array_vec_len s.rows) s.rows.items s.columns s.kept).own };
+    ghost own = { λ s. (rows_lawful s.nodes s.rows.items s.columns s.kept).own };
 
-    ghost through = { λ s. (rows_lawful s.nodes (array_vec_len s.rows) s.rows.items s.columns s.kept).through };
+    ghost through = { λ s. (rows_lawful s.nodes s.rows.items s.columns s.kept).through };
 
-    ghost earliest = { λ s. (rows_lawful s.nodes (array_vec_len s.rows) s.rows.items s.columns s.kept).earliest };
+    ghost earliest = { λ s. (rows_lawful s.nodes s.rows.items s.columns s.kept).earliest };
 
-    ghost no_higher = { λ s. (rows_lawful s.nodes (array_vec_len s.rows) s.rows.items s.columns s.kept).no_higher };
+    ghost no_higher = { λ s. (rows_lawful s.nodes s.rows.items s.columns s.kept).no_higher };
 
     fn new() -> RowClock {
         RowClock {

@@ -15,5 +15,5 @@ returns c =
     let rows = s.rows.items in
     let len = length rows in
     let same : IfSome c.then.result (λ n. n ≡ cell rows e i) = search rules in
-    count_is (rows_mean s.nodes len rows) len (length-listed (held_row rows) len) e i (cell rows e i) c.then.result
-    (c.then.ensures.variant ∙ rw c.len.ensures at c.knows.ensures) same (cell-tally s.nodes len rows s.columns s.within.1 s.kept e i)
+    count_is (rows_mean s.nodes rows) len (length-listed (held_row rows) len) e i (cell rows e i) c.then.result
+    (c.then.ensures.variant ∙ rw c.len.ensures at c.knows.ensures) same (cell-tally s.nodes rows s.columns s.within.1 s.kept e i)
