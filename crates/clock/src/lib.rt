@@ -8,9 +8,8 @@ ghost use Rattle.causality.specs.Traces.{node_of, partner_of};
 ghost use Rattle.clock.specs.Meaning.{Meaning, blank, begins, begun, if_given, admits, taken, number, counted, found, Own, Through, Earliest, NoHigher};
 ghost use Rattle.clock.specs.Takes.{MeaningsGrow, MeaningsAnswer, MeaningsLawful, CountsAreChains};
 
-pub use causality::{MAX_NODES, NODES};
-
 use causality::Event;
+pub use causality::{MAX_NODES, NODES};
 
 /// The most entries of a clock: one for each event of a trace.
 pub const MAX_ENTRIES: u16 = causality::MAX_EVENTS;

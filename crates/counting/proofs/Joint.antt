@@ -3,7 +3,7 @@ use Rattle.std.proofs.Common.{◌≡◌, ℕ, suc, ◌<◌, List, [], ◌∷◌,
 use Rattle.causality.specs.Relations.{joined}
 use Rattle.clock.specs.Meaning.{Meaning, counted}
 use Rattle.gathering.specs.declared.Row.{Row}
-use Rattle.gathering.specs.Gathering.{joined_all, zipped}
+use Rattle.gathering.specs.Gathering.{joined_all}
 use Rattle.gathering.proofs.Folds.{folded_out}
 use Rattle.gathering.specs.Zips.{zipped_assoc, length-zipped, get_or-zipped}
 use Rattle.counting.specs.Counting.{or_zero, or_zeros, count_row, zipped_rows, Joint, JointRow}

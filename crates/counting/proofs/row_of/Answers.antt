@@ -1,4 +1,4 @@
-use Rattle.std.proofs.Common.{ℕ, ◌+◌, List, ap, ◌∙◌, add-one, rules}
+use Rattle.std.proofs.Common.{ℕ, List, ap, rules}
 use Rattle.gathering.specs.declared.Row.{Row}
 use Rattle.clock.specs.Meaning.{counted}
 use Rattle.counting.specs.Counting.{or_zero}
