@@ -4,7 +4,7 @@ use mathlib.Core.Path.{fun_ext}
 use mathlib.Core.Bool.{Bool-set}
 use mathlib.Core.Logic.{∥∥₁_elim}
 use native.Mathlib.Bridge.{le_prop}
-use Rattle.std.specs.Option.{option_to_list}
+use Rattle.std.specs.Option.{option_to_list, is_some, IfSome}
 use Rattle.std.proofs.lemmas.Bool.{cases_Bool, eqb-true, lt-ltb, cond-true}
 use Rattle.causality.specs.Newest.{entry, tally, Mem}
 use Rattle.causality.specs.Entries.{Entry, at_either, timeline, newest, latest, predecessors, past, at, stamp}
@@ -82,11 +82,17 @@ module _ (s : Meaning) (len : ℕ) (size : length s.entries ≡ len) where
   pub take-accepted : (a : ℕ) (b m : Option ℕ) → true ≡ admits s.nodes len a b m → (with_entry s (asked a b m) ≡ taken s a b m) × (Some len ≡ number s a b m)
   take-accepted a b m h = rw (size, ← h) (refl, refl)
 
-  pub count_absent : (e i : ℕ) → false ≡ (ltb e len && is_node s.nodes i) → None ≡ counted s e i
+  count_absent : (e i : ℕ) → false ≡ (ltb e len && is_node s.nodes i) → None ≡ counted s e i
   count_absent e i h = rw (size, ← h)
 
-  pub count_present : (e i : ℕ) → true ≡ (ltb e len && is_node s.nodes i) → Some (tally (within s.entries e) (held_at s.entries i)) ≡ counted s e i
+  count_present : (e i : ℕ) → true ≡ (ltb e len && is_node s.nodes i) → Some (tally (within s.entries e) (held_at s.entries i)) ≡ counted s e i
   count_present e i h = rw (size, ← h)
+
+  -- an answer that is there where the clock knows entry and node, and then the count
+  pub count_is : (e i n : ℕ) (answer : Option ℕ) → is_some answer ≡ (ltb e len && is_node s.nodes i) → IfSome answer (λ m. m ≡ n) →
+      (true ≡ (ltb e len && is_node s.nodes i) → n ≡ tally (within s.entries e) (held_at s.entries i)) → answer ≡ counted s e i
+  count_is e i n None known same tallied = count_absent e i known
+  count_is e i n (Some m) known same tallied = ap Some (same ∙ tallied known) ∙ count_present e i known
 
 pub tally-stamp : (ts : List Entry) (e i : ℕ) → tally (within (entries_of ts) e) (held_at (entries_of ts) i) ≡ stamp ts e i
 tally-stamp ts e i = rw (within-is ts, held_timeline ts i)

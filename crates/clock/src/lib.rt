@@ -1,20 +1,20 @@
 //! The trait of a logical clock, and what every make of one has in common.
 #![tactic(auto)]
 
-ghost use Rattle.std.specs.Prelude.{◌≡◌, not, ◌&&◌, ltb, nat_lt};
+ghost use Rattle.std.specs.Prelude.{◌≡◌, not, ◌&&◌, nat_lt};
 ghost use Rattle.causality.specs.Entries.{is, at_either};
 ghost use Rattle.causality.specs.Limits.{is_node};
+ghost use Rattle.causality.specs.Traces.{node_of, partner_of};
 ghost use Rattle.clock.specs.Meaning.{Meaning, blank, begins, begun, if_given, admits, taken, number, counted, found, Own, Through, Earliest, NoHigher};
 ghost use Rattle.clock.specs.Takes.{MeaningsGrow, MeaningsAnswer, MeaningsLawful, CountsAreChains};
 
-/// The most nodes of a clock: those of a trace.
-pub const MAX_NODES: u16 = causality::MAX_NODES;
+use causality::Event;
+pub use causality::{MAX_NODES, NODES};
+
 /// The most entries of a clock: one for each event of a trace.
 pub const MAX_ENTRIES: u16 = causality::MAX_EVENTS;
-/// How many nodes a clock keeps room for.
-pub const NODES: usize = MAX_NODES as usize;
 /// How many entries a clock keeps room for.
-pub const ENTRIES: usize = MAX_ENTRIES as usize;
+pub const ENTRIES: usize = causality::EVENTS;
 
 /// An entry that a clock is asked to take: its node, the second node of a meet, and the entry that it follows by a message.
 #[derive(Clone, Copy, PartialEq, Eq, Debug, Default)]
@@ -22,6 +22,14 @@ pub struct NewEntry {
     pub node: u16,
     pub partner: Option<u16>,
     pub prior: Option<u16>,
+}
+
+/// What comes just before an entry, beside the one that it follows by a message: the latest entry at its node, and the latest at
+/// its partner.
+#[derive(Clone, Copy, PartialEq, Eq, Debug, Default)]
+pub struct Predecessors {
+    pub own: Option<u16>,
+    pub other: Option<u16>,
 }
 
 /// A logical clock: nodes counted from 1, and entries counted from 0, each at one node or two, with its causal past.
@@ -67,11 +75,24 @@ pub trait Clock: Sized {
 }
 
 impl NewEntry {
+    /// The entry of an event, which follows entry `prior` by a message if that is given.
+    pub fn of(event: Event, prior: Option<u16>) -> NewEntry
+        ensures node { result.node ≡ node_of event }
+        ensures partner { result.partner ≡ partner_of event }
+        ensures prior { result.prior ≡ prior }
+    {
+        NewEntry {
+            node: event.node(),
+            partner: event.partner(),
+            prior,
+        }
+    }
+
     /// Whether it stands at node i.
     pub fn stands(&self, i: u16) -> bool
         ensures { result ≡ at_either self.now.node self.now.partner i }
     {
-        stands(self.node, self.partner, i)
+        self.node == i || self.partner == Some(i)
     }
 }
 
@@ -103,13 +124,6 @@ fn is_partner(nodes: u16, a: u16, b: Option<u16>) -> bool
     ensures { result ≡ (if_given (is_node nodes) b && not (is b a)) }
 {
     b.is_none_or(|b| is_node(nodes, b) && b != a)
-}
-
-/// Whether an entry at node a, and at b if given, stands at node i.
-pub fn stands(a: u16, b: Option<u16>, i: u16) -> bool
-    ensures { result ≡ at_either a b i }
-{
-    a == i || b == Some(i)
 }
 
 /// An accepted take adds exactly its entry.

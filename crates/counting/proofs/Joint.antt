@@ -3,15 +3,15 @@ use Rattle.std.proofs.Common.{◌≡◌, ℕ, suc, ◌<◌, List, [], ◌∷◌,
 use Rattle.causality.specs.Relations.{joined}
 use Rattle.clock.specs.Meaning.{Meaning, counted}
 use Rattle.gathering.specs.declared.Row.{Row}
-use Rattle.gathering.specs.Gathering.{joined_all, zipped}
+use Rattle.gathering.specs.Gathering.{joined_all}
 use Rattle.gathering.proofs.Folds.{folded_out}
 use Rattle.gathering.specs.Zips.{zipped_assoc, length-zipped, get_or-zipped}
-use Rattle.counting.specs.Counting.{or_zero, or_zeros, count_row, Joint, JointRow}
+use Rattle.counting.specs.Counting.{or_zero, or_zeros, count_row, zipped_rows, Joint, JointRow}
 use Rattle.counting.proofs.Rows.{length-row, get_or-row}
 
 module _ (f : ℕ → ℕ → ℕ) (associative : (x y z : ℕ) → f (f x y) z ≡ f x (f y z)) where
   abbrev pub op : Row → Row → Row
-  op x y = record { counts = zipped f x.counts y.counts }
+  op = zipped_rows f
 
   op-associative : (x y z : Row) → op (op x y) z ≡ op x (op y z)
   op-associative x y z = ap (λ (l : List ℕ). record { counts = l }) (zipped_assoc f associative x.counts y.counts z.counts)

@@ -3,11 +3,11 @@
 
 ghost use Rattle.std.specs.Prelude.{◌≡◌, ◌≤◌, map, length};
 ghost use Rattle.clock.specs.Meaning.{counted};
-ghost use Rattle.counting.specs.Counting.{Joint, count_row, or_zero, or_zeros};
+ghost use Rattle.counting.specs.Counting.{Joint, count_row, or_zero, or_zeros, zipped_rows};
 ghost use Rattle.gathering.specs.Gathering.{joined_all};
 ghost use Rattle.history.specs.Answers.{with_row};
 
-use clock::{Clock, MAX_NODES};
+use clock::Clock;
 use gathering::{Joining, ROW, Row, gather, gather_by};
 
 /// A row of zeros.
@@ -27,28 +27,20 @@ pub fn write_counts<C: Clock>(clock: &C, e: u16, n: u16, row: &mut [u16])
 pub fn row_of<C: Clock>(clock: &C, e: u16) -> Row
     ensures { result ≡ count_row (C.Clock.means clock.now) e }
 {
-    let mut counts = [0; ROW];
-    write_counts(clock, e, MAX_NODES, &mut counts);
-    Row { counts }
-}
-
-/// The rows of some entries, joined; none of no entries.
-pub fn joint_row<C: Clock, J: Joining<Row>>(clock: &C, entries: &[u16]) -> Option<Row>
-    ensures { result ≡ joined_all J.Joining.op (map (count_row (C.Clock.means clock.now)) entries.now) }
-{
-    gather_by::<u16, Row, J, _>(entries, |e| row_of(clock, e))
+    Row::at_nodes(|i| clock.count(e, i).unwrap_or(0))
 }
 
 /// The counts of some entries, joined node by node; none of no entries.
 pub fn joint_counts<C: Clock, J: Joining<u16>>(clock: &C, entries: &[u16]) -> Option<Row>
-    ensures { Joint J.Joining.op (C.Clock.means clock.now) entries.now result }
+    ensures rows { result ≡ joined_all (zipped_rows J.Joining.op) (map (count_row (C.Clock.means clock.now)) entries.now) }
+    ensures counts { Joint J.Joining.op (C.Clock.means clock.now) entries.now result }
 {
-    joint_row::<C, J>(clock, entries)
+    gather_by::<u16, Row, J, _>(entries, |e| row_of(clock, e))
 }
 
 /// Some rows joined; zeros if there are none.
 pub fn joined_row<J: Joining<Row>>(rows: &[Row]) -> Row
     ensures { result ≡ or_zeros (joined_all J.Joining.op rows.now) }
 {
-    gather::<Row, J>(rows).unwrap_or(NO_ROW)
+    gather::<Row, J>(rows).unwrap_or_default()
 }

@@ -1,11 +1,11 @@
 //! Feeding a clock the events of a trace from last to first.
 #![tactic(auto)]
 
-ghost use Rattle.std.specs.Prelude.{◌≡◌, ◌-◌, ◌≤◌, length};
+ghost use Rattle.std.specs.Prelude.{◌≡◌, ◌≤◌, length};
 ghost use Rattle.feeding.specs.Posted.{fed_through, follower};
 ghost use Rattle.records.specs.Messages.{sent_of};
 
-use causality::Event;
+use causality::{Event, from_last};
 use clock::{Clock, NewEntry};
 use records::Messages;
 
@@ -16,11 +16,7 @@ pub fn feed_back<C: Clock>(clock: &mut C, events: &[Event], sent: &Messages)
 {
     let len = events.len() as u16;
     for event in events.iter().rev() {
-        let _ = clock.take(NewEntry {
-            node: event.node(),
-            partner: event.partner(),
-            prior: follower_of(*event, sent, len),
-        });
+        let _ = clock.take(NewEntry::of(*event, follower_of(*event, sent, len)));
     }
 }
 
@@ -33,11 +29,4 @@ fn follower_of(event: Event, sent: &Messages, len: u16) -> Option<u16>
     };
     let receipt = sent.find(m)?.receipt?;
     Some(from_last(len, receipt))
-}
-
-// Event j, counted from the last of len events.
-fn from_last(len: u16, j: u16) -> u16
-    ensures { result ≡ len - 1 - j }
-{
-    len.saturating_sub(1).saturating_sub(j)
 }

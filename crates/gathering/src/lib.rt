@@ -2,9 +2,9 @@
 #![tactic(auto)]
 
 ghost use Rattle.std.specs.List.{AllZip};
-ghost use Rattle.std.specs.Prelude.{◌≡◌, ℕ, List, ◌<◌, ◌≤◌, min, max, ◌++◌, length, MatchOption, slice_index};
+ghost use Rattle.std.specs.Prelude.{◌≡◌, ℕ, List, ◌+◌, ◌<◌, ◌≤◌, min, max, ◌++◌, length, MatchOption, slice_index};
 ghost use Rattle.gathering.specs.Gathering.{Chooses, Extreme, earliest, joined_all, zipped};
-ghost use Rattle.std.proofs.Common.{ap, ap₂, rules, arith};
+ghost use Rattle.std.proofs.Common.{ap, ap₂, rules};
 ghost use Rattle.gathering.specs.Absent.{earliest_associative};
 ghost use Rattle.gathering.specs.Choices.{by_max, by_min};
 ghost use Rattle.gathering.specs.Zips.{zipped_assoc};
@@ -46,19 +46,30 @@ pub fn gather_parts<T: Copy, J: Joining<T>>(front: &[T], back: &[T]) -> Option<T
     ensures { result ≡ joined_all J.Joining.op (front.now ++ back.now) }
 {
     match (gather::<T, J>(front), gather::<T, J>(back)) {
-        (None, all) => all,
-        (Some(all), None) => Some(all),
         (Some(a), Some(b)) => Some(J::join(a, b)),
+        (a, b) => a.or(b),
     }
 }
 
 /// The length of a row: a number for each node that a trace may have.
-pub const ROW: usize = 16;
+pub const ROW: usize = causality::NODES;
 
 /// A number for each node.
-#[derive(Clone, Copy, PartialEq, Eq, Debug)]
+#[derive(Clone, Copy, PartialEq, Eq, Debug, Default)]
 pub struct Row {
     pub counts: [u16; ROW],
+}
+
+impl Row {
+    /// What `number` gives of each node, counted from 1.
+    pub fn at_nodes<F: Fn(u16) -> u16>(number: F) -> Row
+        requires { F.IsAlwaysCallable number }
+        ensures { (i : ℕ) → i < 16 → F.post number (i + 1) (slice_index result.counts i) }
+    {
+        Row {
+            counts: array::from_fn(|i| number(i as u16 + 1)),
+        }
+    }
 }
 
 /// The joining that takes the least.

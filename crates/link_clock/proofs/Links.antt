@@ -1,5 +1,5 @@
 -- Links of a list of takes, with one more entry, and what their predecessors tell of pasts.
-use Rattle.std.proofs.Common.{◌≡◌, ℕ, zero, suc, ◌+◌, ◌-◌, ◌<◌, ◌≤◌, Bool, true, cond, ◌||◌, eqb, ltb, List, [], ◌∷◌, ◌++◌, length, get_or, replicate, Some, None, Option, sym, refl, ap, ◌∙◌, ap₂, inl, inr, add-one, arith, below_more}
+use Rattle.std.proofs.Common.{◌≡◌, ℕ, zero, suc, ◌+◌, ◌-◌, ◌<◌, ◌≤◌, Bool, true, cond, ◌||◌, eqb, ltb, List, [], ◌∷◌, ◌++◌, length, get_or, replicate, Some, None, Option, sym, refl, ap, ◌∙◌, ap₂, inl, inr, add-one, arith, below_more, length-append}
 use mathlib.Core.Bool.{Bool-set}
 use mathlib.Core.Logic.{∥∥₁_elim, ∥∥₁_prop}
 use Rattle.std.specs.Option.{option_to_list}
@@ -16,7 +16,7 @@ use Rattle.clock.specs.Takes.{entries_of}
 use Rattle.clock.proofs.Arrays.{length-listed, listed_like, node_bounds, given_up, Admitted}
 use Rattle.clock.proofs.Takes.{length-entries, latest-low}
 use Rattle.link_clock.specs.declared.Link.{Link}
-use Rattle.link_clock.specs.Links.{no_link, entry_of, takes_of, before, earlier, Keeps, Kept, latest_of, Noted}
+use Rattle.link_clock.specs.Links.{no_link, entry_of, takes_of, all_takes, before, earlier, Keeps, Kept, latest_of, Noted}
 
 pub length_takes : (links : List Link) (k : ℕ) → length (takes_of links k) ≡ k
 length_takes links k = length-listed (λ e. entry_of (get_or links e no_link)) k
@@ -29,15 +29,15 @@ length_held links k = length-entries (takes_of links k) ∙ length_takes links k
 pub earlier_up : (z k : ℕ) (l : Link) → z ≤ k → earlier z l ≡ true → earlier k l ≡ true
 earlier_up z k l h low =
     let up : (o : Option ℕ) → if_given (λ x. ltb x z) o ≡ true → if_given (λ x. ltb x k) o ≡ true = given_up _ _ (λ x g. lt-ltb x k (omega (arith, ltb-true x z g))) in
-    let (p, q) = and_parts (if_given (λ x. ltb x z) l.own) _ low in
-    let (r, s) = and_parts (if_given (λ x. ltb x z) l.other) _ q in
-    and_from _ _ (up l.own p) (and_from _ _ (up l.other r) (up l.entry.prior s))
+    let (p, q) = and_parts (if_given (λ x. ltb x z) l.before.own) _ low in
+    let (r, s) = and_parts (if_given (λ x. ltb x z) l.before.other) _ q in
+    and_from _ _ (up l.before.own p) (and_from _ _ (up l.before.other r) (up l.entry.prior s))
 
 pub earlier-all : (z : ℕ) (l : Link) → earlier z l ≡ true → AllByRecursion (λ x. x < z) (before l)
 earlier-all z l low =
-    let (p, q) = and_parts (if_given (λ x. ltb x z) l.own) _ low in
-    let (r, s) = and_parts (if_given (λ x. ltb x z) l.other) _ q in
-    All-append _ (option_to_list l.own) _ (each l.own p) (All-append _ (option_to_list l.other) _ (each l.other r) (each l.entry.prior s))
+    let (p, q) = and_parts (if_given (λ x. ltb x z) l.before.own) _ low in
+    let (r, s) = and_parts (if_given (λ x. ltb x z) l.before.other) _ q in
+    All-append _ (option_to_list l.before.own) _ (each l.before.own p) (All-append _ (option_to_list l.before.other) _ (each l.before.other r) (each l.entry.prior s))
   where
     each : (o : Option ℕ) → if_given (λ x. ltb x z) o ≡ true → AllByRecursion (λ x. x < z) (option_to_list o)
     each None g = tt
@@ -61,69 +61,77 @@ pub record Linked (links : List Link) (len : ℕ) : Type 0 where
   pub low : (z : ℕ) → z < len → earlier z (get_or links z no_link) ≡ true
   pub step : (z y : ℕ) → z < len → past (takes_of links len) z y ≡ (eqb y z || in_some (past (takes_of links len)) (before (get_or links z no_link)) y)
 
-pub linked : (len : ℕ) (links : List Link) (latest_at : List (Option ℕ)) → Kept len links latest_at → Linked links len
-linked len links latest_at kept = record { low = λ z l. ∥∥₁_elim kept (Bool-set _ _) (λ k. k.low z l); step = λ z y l. ∥∥₁_elim kept (Bool-set _ _) (λ k. step k z y l) }
+pub linked : (links : List Link) (latest_at : List (Option ℕ)) → Kept links latest_at → Linked links (length links)
+linked links latest_at kept = record { low = λ z l. ∥∥₁_elim kept (Bool-set _ _) (λ k. k.low z l); step = λ z y l. ∥∥₁_elim kept (Bool-set _ _) (λ k. step k z y l) }
   where
-    step : Keeps len links latest_at → (z y : ℕ) → z < len → past (takes_of links len) z y ≡ (eqb y z || in_some (past (takes_of links len)) (before (get_or links z no_link)) y)
+    step : Keeps links latest_at → (z y : ℕ) → z < length links → past (takes_of links (length links)) z y ≡ (eqb y z || in_some (past (takes_of links (length links))) (before (get_or links z no_link)) y)
     step k z y l =
         let link = get_or links z no_link in
         let size = length_takes links z in
-        past-grown links z y (suc z) len (omega arith) (omega arith)
+        past-grown links z y (suc z) (length links) (omega arith) (omega arith)
         ∙ ap (λ (n : ℕ). past (takes_of links (suc z)) n y) (sym size) ∙ past_head (entry_of link) (takes_of links z) y
         ∙ ap₂ (λ (n : ℕ) (xs : List ℕ). eqb y n || in_some (past (takes_of links z)) xs y) size (sym (k.right z l))
-        ∙ ap (λ (b : Bool). eqb y z || b) (in_some-grown links y z len (omega arith) (before link) (earlier-all z link (k.low z l)))
+        ∙ ap (λ (b : Bool). eqb y z || b) (in_some-grown links y z (length links) (omega arith) (before link) (earlier-all z link (k.low z l)))
 
 -- ---- one more entry
 
-module _ (len : ℕ) (links : List Link) (latest_at latest_at' : List (Option ℕ)) (a : ℕ) (b m own other : Option ℕ) (all : length links ≡ len) (ok : Admitted len a b m)
-    (own_is : own ≡ latest_of latest_at (Some a)) (other_is : other ≡ latest_of latest_at b) (noted : Noted latest_at a b len latest_at') where
+module _ (links : List Link) (latest_at latest_at' : List (Option ℕ)) (a : ℕ) (b m own other : Option ℕ) (ok : Admitted (length links) a b m)
+    (own_is : own ≡ latest_of latest_at (Some a)) (other_is : other ≡ latest_of latest_at b) (noted : Noted latest_at a b (length links) latest_at') where
   abbrev new : Link
-  new = record { entry = record { node = a; partner = b; prior = m }; own = own; other = other }
+  new = record { entry = record { node = a; partner = b; prior = m }; before = record { own = own; other = other } }
 
   abbrev more : List Link
   more = links ++ (new ∷ [])
 
-  here : get_or more len no_link ≡ new
-  here = ap (λ (n : ℕ). get_or more n no_link) (sym all) ∙ get_or-append_seam links new [] no_link
+  here : get_or more (length links) no_link ≡ new
+  here = get_or-append_seam links new [] no_link
 
-  old : (e : ℕ) → e < len → get_or more e no_link ≡ get_or links e no_link
+  old : (e : ℕ) → e < (length links) → get_or more e no_link ≡ get_or links e no_link
   old e l = get_or_append_left links (new ∷ []) no_link e (omega arith)
 
-  takes_same : (k : ℕ) → k ≤ len → takes_of more k ≡ takes_of links k
+  takes_same : (k : ℕ) → k ≤ (length links) → takes_of more k ≡ takes_of links k
   takes_same k l = listed_like _ _ k (λ e h. ap entry_of (old e (omega arith)))
 
-  pub takes_more : takes_of more (len + 1) ≡ asked a b m ∷ takes_of links len
-  takes_more = rw add-one (ap₂ (λ (t : Entry) (ts : List Entry). t ∷ ts) (ap entry_of here) (takes_same len (omega arith)))
+  takes_more : takes_of more ((length links) + 1) ≡ asked a b m ∷ takes_of links (length links)
+  takes_more = rw add-one (ap₂ (λ (t : Entry) (ts : List Entry). t ∷ ts) (ap entry_of here) (takes_same (length links) (omega arith)))
 
-  keeps_more : Keeps len links latest_at → Keeps (len + 1) more latest_at'
+  longer : length more ≡ length links + 1
+  longer = length-append links (new ∷ [])
+
+  pub takes_all : all_takes more ≡ asked a b m ∷ all_takes links
+  takes_all = ap (takes_of more) longer ∙ takes_more
+
+  keeps_more : Keeps links latest_at → Keeps more latest_at'
   keeps_more k =
       record {
-        right = below_more (λ e. before (get_or more e no_link) ≡ predecessors (entry_of (get_or more e no_link)) (takes_of more e)) len
+        right = λ e l. below_more (λ e. before (get_or more e no_link) ≡ predecessors (entry_of (get_or more e no_link)) (takes_of more e)) (length links)
             (λ e l. rw (old e l, takes_same e (omega arith)) (k.right e l))
             (rw here (ap₂ (λ (o p : Option ℕ). option_to_list o ++ (option_to_list p ++ option_to_list m)) (own_is ∙ last_of k (Some a) ok.node) (other_is ∙ last_of k b ok.partner)
-            ∙ ap (predecessors (asked a b m)) (sym (takes_same len (omega arith)))));
-        low = below_more (λ e. earlier e (get_or more e no_link) ≡ true) len
+            ∙ ap (predecessors (asked a b m)) (sym (takes_same (length links) (omega arith)))))
+            e (omega (arith, l, longer));
+        low = λ e l. below_more (λ e. earlier e (get_or more e no_link) ≡ true) (length links)
             (λ e l. rw (old e l) (k.low e l))
-            (rw here (and_from _ _ (held k (Some a) own ok.node own_is) (and_from _ _ (held k b other ok.partner other_is) ok.held)));
-        last = λ i h. noted i h ∙ ap (cond (at_either a b i) (Some len)) (k.last i h) ∙ newest-more i ∙ ap (λ (ts : List Entry). latest ts (Some i)) (sym takes_more);
+            (rw here (and_from _ _ (held k (Some a) own ok.node own_is) (and_from _ _ (held k b other ok.partner other_is) ok.held)))
+            e (omega (arith, l, longer));
+        last = λ i h. noted i h ∙ ap (cond (at_either a b i) (Some (length links))) (k.last i h) ∙ newest-more i ∙ ap (λ (ts : List Entry). latest ts (Some i)) (sym takes_all);
       }
     where
-      last_of : Keeps len links latest_at → (o : Option ℕ) → if_given (is_node max_nodes) o ≡ true → latest_of latest_at o ≡ latest (takes_of links len) o
+      last_of : Keeps links latest_at → (o : Option ℕ) → if_given (is_node max_nodes) o ≡ true → latest_of latest_at o ≡ latest (takes_of links (length links)) o
       last_of k None h = refl
       last_of k (Some i) h = k.last i h
 
-      held : Keeps len links latest_at → (o x : Option ℕ) → if_given (is_node max_nodes) o ≡ true → x ≡ latest_of latest_at o → if_given (λ y. ltb y len) x ≡ true
-      held k o x h e = rw (e ∙ last_of k o h) (rw (length_takes links len) at (latest-low (takes_of links len) o))
+      held : Keeps links latest_at → (o x : Option ℕ) → if_given (is_node max_nodes) o ≡ true → x ≡ latest_of latest_at o → if_given (λ y. ltb y (length links)) x ≡ true
+      held k o x h e = rw (e ∙ last_of k o h) (rw (length_takes links (length links)) at (latest-low (takes_of links (length links)) o))
 
-      newest-more : (i : ℕ) → cond (at_either a b i) (Some len) (latest (takes_of links len) (Some i)) ≡ latest (asked a b m ∷ takes_of links len) (Some i)
-      newest-more i = elim (cases_Bool (at_either a b i)) [ inl s ↦ rw (s, length_takes links len) | inr s ↦ rw s ]
+      newest-more : (i : ℕ) → cond (at_either a b i) (Some (length links)) (latest (takes_of links (length links)) (Some i)) ≡ latest (asked a b m ∷ takes_of links (length links)) (Some i)
+      newest-more i = elim (cases_Bool (at_either a b i)) [ inl s ↦ rw (s, length_takes links (length links)) | inr s ↦ rw s ]
 
-  pub kept_more : Kept len links latest_at → Kept (len + 1) more latest_at'
+  pub kept_more : Kept links latest_at → Kept more latest_at'
   kept_more kept = ∥∥₁_elim kept ∥∥₁_prop (λ k. ∣ keeps_more k ∣₁)
 
 -- ---- no entries
 
-pub kept-none : (links : List Link) → links ≡ [] → Kept (length links) links (replicate max_nodes None)
+pub kept-none : (links : List Link) → links ≡ [] → Kept links (replicate max_nodes None)
 kept-none links none = rw none (∣ record {
   right = λ e l. absurd (omega arith);
   low = λ e l. absurd (omega arith);

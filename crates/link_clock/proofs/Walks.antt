@@ -9,7 +9,7 @@ use Rattle.causality.specs.Entries.{at_either, timeline, in_some, past}
 use Rattle.causality.proofs.Pasts.{pasts-lawful}
 use Rattle.clock.specs.Meaning.{max_entries}
 use Rattle.link_clock.specs.declared.Link.{Link}
-use Rattle.link_clock.specs.Links.{no_link, takes_of, before, marked, visited, met, reached, Walked}
+use Rattle.link_clock.specs.Links.{no_link, takes_of, all_takes, before, marked, visited, met, reached, Walked}
 use Rattle.link_clock.proofs.Links.{length_takes, earlier-all, Linked}
 
 -- ---- tests
@@ -82,14 +82,14 @@ no_hit false n = omega arith
 
 -- ---- the walk
 
-module _ (links : List Link) (len e i : ℕ) (linked : Linked links len) (e-low : e < len) (small : len ≤ max_entries) where
+module _ (links : List Link) (e i : ℕ) (linked : Linked links (length links)) (e-low : e < length links) (small : length links ≤ max_entries) where
   abbrev P : ℕ → ℕ → Bool
-  P = past (takes_of links len)
+  P = past (all_takes links)
 
   high : (z y : ℕ) → z < y → P z y ≡ false
-  high z y l = elim (cases_Bool (P z y)) [ inl h ↦ absurd (omega (arith, (pasts-lawful (takes_of links len)).no_higher z y h)) | inr h ↦ h ]
+  high z y l = elim (cases_Bool (P z y)) [ inl h ↦ absurd (omega (arith, (pasts-lawful (all_takes links)).no_higher z y h)) | inr h ↦ h ]
 
-  pub walked_start : Walked links len e i (set (replicate max_entries false) e true) (e + 1) 0
+  pub walked_start : Walked links e i (set (replicate max_entries false) e true) (e + 1) 0
   walked_start = record {
     size = length-set (replicate max_entries false) e true ∙ length-replicate max_entries false;
     low = omega arith;
@@ -97,14 +97,14 @@ module _ (links : List Link) (len e i : ℕ) (linked : Linked links len) (e-low 
     left = λ y l.
         let none = reached-none P y (replicate max_entries false) (suc e) (λ z l. rw (get_or-replicate max_entries z false false (omega arith))) in
         rw (add-one, reached-set P y (replicate max_entries false) e (suc e) (omega arith) (omega (arith, length-replicate max_entries false)), none) (or-false (P e y));
-    counted = rw add-one (omega (arith, tally_older links (P e) e i (λ z. high e z) len e-low));
+    counted = rw add-one (omega (arith, tally_older links (P e) e i (λ z. high e z) (length links) e-low));
   }
 
-  module _ (marks : List Bool) (z count : ℕ) (w : Walked links len e i marks (suc z) count) where
+  module _ (marks : List Bool) (z count : ℕ) (w : Walked links e i marks (suc z) count) where
     -- an entry is marked when the walk comes to it exactly if it lies in the past
     told : get_or marks z false ≡ P e z
     told =
-        let own = (pasts-lawful (takes_of links len)).own z (omega (arith, length_takes links len, w.low)) in
+        let own = (pasts-lawful (all_takes links)).own z (omega (arith, length_takes links (length links), w.low)) in
         let rest = reached-none P z marks z (λ y l. elim (cases_Bool (get_or marks y false)) [ inl s ↦ rw (s, high y z l) | inr s ↦ rw s ]) in
         elim (cases_Bool (get_or marks z false)) [
           | inl s ↦ let h = w.left z (omega arith) in s ∙ rw (s, own) at h
@@ -130,7 +130,7 @@ module _ (links : List Link) (len e i : ℕ) (linked : Linked links len) (e-low 
           | inr s ↦ rw s (rw s at here)
         ]
 
-    pub walked_step : Walked links len e i (visited links marks z) z (count + cond (met links marks z i) 1 0)
+    pub walked_step : Walked links e i (visited links marks z) z (count + cond (met links marks z i) 1 0)
     walked_step = record {
       size = elim (cases_Bool (get_or marks z false)) [ inl s ↦ rw s (length_marked marks (before (get_or links z no_link)) ∙ w.size) | inr s ↦ rw s w.size ];
       low = omega (arith, w.low);

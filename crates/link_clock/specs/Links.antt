@@ -5,7 +5,7 @@
 -- A walk marks an entry, and then from there down to the oldest marks the predecessors of each marked entry: the marked
 -- entries are the past.
 --
---   takes_of links len      the entries that the first len links are of, newest first
+--   takes_of links k        the entries that the first k links are of, newest first; `all_takes` those of all links
 --   before link             the immediate predecessors
 --   Keeps, Kept             the links and the latest entries are those of these entries
 --   marked marks xs         marks, and those of xs too
@@ -23,35 +23,38 @@ use Rattle.clock.specs.Arrays.{listed}
 use Rattle.link_clock.specs.declared.Link.{Link}
 
 abbrev pub no_link : Link
-no_link = record { entry = record { node = 0; partner = None; prior = None }; own = None; other = None }
+no_link = record { entry = record { node = 0; partner = None; prior = None }; before = record { own = None; other = None } }
 
 abbrev pub entry_of : Link → Entry
 entry_of l = asked l.entry.node l.entry.partner l.entry.prior
 
 abbrev pub takes_of : List Link → ℕ → List Entry
-takes_of links len = listed (λ e. entry_of (slice_index_or links e no_link)) len
+takes_of links k = listed (λ e. entry_of (slice_index_or links e no_link)) k
 
-abbrev pub links_mean : ℕ → ℕ → List Link → Meaning
-links_mean n len links = meaning n (takes_of links len)
+abbrev pub all_takes : List Link → List Entry
+all_takes links = takes_of links (length links)
+
+abbrev pub links_mean : ℕ → List Link → Meaning
+links_mean n links = meaning n (all_takes links)
 
 abbrev pub before : Link → List ℕ
-before l = option_to_list l.own ++ (option_to_list l.other ++ option_to_list l.entry.prior)
+before l = option_to_list l.before.own ++ (option_to_list l.before.other ++ option_to_list l.entry.prior)
 
 -- all predecessors are below k
 abbrev pub earlier : ℕ → Link → Bool
-earlier k l = if_given (λ x. nat_lt x k) l.own && (if_given (λ x. nat_lt x k) l.other && if_given (λ x. nat_lt x k) l.entry.prior)
+earlier k l = if_given (λ x. nat_lt x k) l.before.own && (if_given (λ x. nat_lt x k) l.before.other && if_given (λ x. nat_lt x k) l.entry.prior)
 
 -- ---- the predecessors of the entries taken
 
-pub record Keeps (len : ℕ) (links : List Link) (latest_at : List (Option ℕ)) : Type 0 where
+pub record Keeps (links : List Link) (latest_at : List (Option ℕ)) : Type 0 where
   -- each link has the predecessors of its entry, all earlier than it
-  pub right : (e : ℕ) → e < len → before (slice_index_or links e no_link) ≡ predecessors (entry_of (slice_index_or links e no_link)) (takes_of links e)
-  pub low : (e : ℕ) → e < len → earlier e (slice_index_or links e no_link) ≡ true
+  pub right : (e : ℕ) → e < length links → before (slice_index_or links e no_link) ≡ predecessors (entry_of (slice_index_or links e no_link)) (takes_of links e)
+  pub low : (e : ℕ) → e < length links → earlier e (slice_index_or links e no_link) ≡ true
   -- each node has its latest entry
-  pub last : (i : ℕ) → is_node max_nodes i ≡ true → slice_index_or latest_at (i - 1) None ≡ latest (takes_of links len) (Some i)
+  pub last : (i : ℕ) → is_node max_nodes i ≡ true → slice_index_or latest_at (i - 1) None ≡ latest (all_takes links) (Some i)
 
-abbrev pub Kept : ℕ → List Link → List (Option ℕ) → Type 0
-Kept len links latest_at = ∥ (Keeps len links latest_at) ∥₁
+abbrev pub Kept : List Link → List (Option ℕ) → Type 0
+Kept links latest_at = ∥ (Keeps links latest_at) ∥₁
 
 -- ---- the steps of a take
 
@@ -83,9 +86,9 @@ reached past_of marks zero y = false
 reached past_of marks (suc z) y = (slice_index_or marks z false && past_of z y) || reached past_of marks z y
 
 -- from e back to x: what is marked below x reaches the rest of the past of e, and count is what was met
-pub record Walked (links : List Link) (len e i : ℕ) (marks : List Bool) (x count : ℕ) : Type 0 where
+pub record Walked (links : List Link) (e i : ℕ) (marks : List Bool) (x count : ℕ) : Type 0 where
   pub size : length marks ≡ max_entries
   pub low : x ≤ e + 1
   pub small : count + x ≤ max_entries
-  pub left : (y : ℕ) → y < x → reached (past (takes_of links len)) marks x y ≡ past (takes_of links len) e y
-  pub counted : count + tally (past (takes_of links len) e) (timeline (takes_of links x) i) ≡ stamp (takes_of links len) e i
+  pub left : (y : ℕ) → y < x → reached (past (all_takes links)) marks x y ≡ past (all_takes links) e y
+  pub counted : count + tally (past (all_takes links) e) (timeline (takes_of links x) i) ≡ stamp (all_takes links) e i

@@ -1,4 +1,4 @@
-//! A clock that keeps only the immediate predecessors of each entry, and walks back over them when asked.
+//! A clock that keeps of each entry only its nodes and its immediate predecessors, and walks back over them when asked.
 #![tactic(auto)]
 
 ghost use Rattle.std.specs.Prelude.{◌≡◌, ◌<◌, ◌≤◌, true, length, nat_lt, slice_index_or};
@@ -7,21 +7,22 @@ ghost use Rattle.arrayvec.specs.ArrayVec.{array_vec_len};
 ghost use Rattle.causality.specs.Entries.{at as timeline_at, stamp};
 ghost use Rattle.causality.specs.Limits.{max_nodes, is_node};
 ghost use Rattle.clock.specs.Meaning.{max_entries, blank, if_given};
-ghost use Rattle.link_clock.specs.Links.{no_link, before, earlier, takes_of, links_mean, Kept, latest_of, Noted, marked, met, visited};
+ghost use Rattle.link_clock.specs.Links.{no_link, before, earlier, all_takes, links_mean, Kept, latest_of, Noted, marked, met, visited};
 ghost use Rattle.clock.proofs.Takes.{meanings_lawful};
 
 use arrayvec::ArrayVec;
-use clock::{Clock, ENTRIES, MAX_NODES, NODES, NewEntry, admits, is_node, knows};
+use clock::{
+    Clock, ENTRIES, MAX_NODES, NODES, NewEntry, Predecessors, admits, is_node, knows,
+};
 
-/// An entry as it was taken, and its immediate predecessors: beside its prior, the latest at its node and at its partner.
+/// An entry as it was taken, and what came just before it.
 #[derive(Clone, Copy, Default)]
 struct Link {
     entry: NewEntry,
-    own: Option<u16>,
-    other: Option<u16>,
+    before: Predecessors,
 }
 
-/// A clock that keeps the immediate predecessors of each entry, and the latest entry of each node.
+/// A clock that keeps each entry with its immediate predecessors, and the latest entry of each node.
 #[derive(Drop)]
 pub struct LinkClock {
     nodes: u16,
@@ -29,7 +30,7 @@ pub struct LinkClock {
     latest: [Option<u16>; NODES],
     ghost long: { length latest ≡ max_nodes },
     ghost within: { (array_vec_len links ≤ max_entries) × (nodes ≤ max_nodes) },
-    ghost kept: { Kept (array_vec_len links) links.items latest },
+    ghost kept: { Kept links.items latest },
 }
 
 /// Entry e is now the latest at its nodes.
@@ -59,8 +60,8 @@ fn mark_before(marks: &mut [bool; ENTRIES], link: Link)
     requires { earlier max_entries link ≡ true }
     ensures { marks.new ≡ marked marks.old (before link) }
 {
-    mark(marks, link.own);
-    mark(marks, link.other);
+    mark(marks, link.before.own);
+    mark(marks, link.before.other);
     mark(marks, link.entry.prior);
 }
 
@@ -68,7 +69,7 @@ impl LinkClock {
     /// Sets n nodes and no entries.
     fn clear(&mut self, n: u16)
         requires { is_node max_nodes n ≡ true }
-        ensures { links_mean self.new.nodes (array_vec_len self.new.links) self.new.links.items ≡ blank n }
+        ensures { links_mean self.new.nodes self.new.links.items ≡ blank n }
     {
         self.nodes = n;
         self.links.clear();
@@ -107,7 +108,7 @@ impl LinkClock {
     /// How many entries at node i lie in the past of e: one pass from e down to the oldest.
     fn walk(&self, e: u16, i: u16) -> u16
         requires { e < array_vec_len self.now.links }
-        ensures { result ≡ stamp (takes_of self.now.links.items (array_vec_len self.now.links)) e i }
+        ensures { result ≡ stamp (all_takes self.now.links.items) e i }
     {
         let mut marks = [false; ENTRIES];
         marks[e as usize] = true;
@@ -121,31 +122,27 @@ impl LinkClock {
     /// The k-th entry at node i: one pass from the oldest up.
     fn find(&self, i: u16, k: u16) -> Option<u16>
         requires { 1 ≤ k }
-        ensures { result ≡ timeline_at (takes_of self.now.links.items (array_vec_len self.now.links)) i k }
+        ensures { result ≡ timeline_at (all_takes self.now.links.items) i k }
     {
-        let mut height = 0;
-        for (x, link) in self.links.iter().enumerate() {
-            if link.entry.stands(i) {
-                height += 1;
-                if height == k {
-                    return Some(x as u16);
-                }
-            }
-        }
-        None
+        let mut standing = self
+            .links
+            .iter()
+            .enumerate()
+            .filter(|(_, link)| link.entry.stands(i));
+        standing.nth(k as usize - 1).map(|(x, _)| x as u16)
     }
 }
 
 impl Clock for LinkClock {
-    ghost means = { λ s. links_mean s.nodes (array_vec_len s.links) s.links.items };
+    ghost means = { λ s. links_mean s.nodes s.links.items };
 
-    ghost own = { λ s. (meanings_lawful s.nodes (takes_of s.links.items (array_vec_len s.links))).own };
+    ghost own = { λ s. (meanings_lawful s.nodes (all_takes s.links.items)).own };
 
-    ghost through = { λ s. (meanings_lawful s.nodes (takes_of s.links.items (array_vec_len s.links))).through };
+    ghost through = { λ s. (meanings_lawful s.nodes (all_takes s.links.items)).through };
 
-    ghost earliest = { λ s. (meanings_lawful s.nodes (takes_of s.links.items (array_vec_len s.links))).earliest };
+    ghost earliest = { λ s. (meanings_lawful s.nodes (all_takes s.links.items)).earliest };
 
-    ghost no_higher = { λ s. (meanings_lawful s.nodes (takes_of s.links.items (array_vec_len s.links))).no_higher };
+    ghost no_higher = { λ s. (meanings_lawful s.nodes (all_takes s.links.items)).no_higher };
 
     fn new() -> LinkClock {
         LinkClock {
@@ -168,19 +165,17 @@ impl Clock for LinkClock {
         if !admits(self.nodes, e, entry) {
             return None;
         }
-        let own = self.latest_at(Some(entry.node));
-        let other = self.latest_at(entry.partner);
+        let before = Predecessors {
+            own: self.latest_at(Some(entry.node)),
+            other: self.latest_at(entry.partner),
+        };
         note(&mut self.latest, entry, e);
-        self.links.push(Link { entry, own, other });
+        self.links.push(Link { entry, before });
         Some(e)
     }
 
     fn count(&self, e: u16, i: u16) -> Option<u16> {
-        if knows(self.nodes, self.len(), e, i) {
-            Some(self.walk(e, i))
-        } else {
-            None
-        }
+        knows(self.nodes, self.len(), e, i).then(|| self.walk(e, i))
     }
 
     fn at(&self, i: u16, k: u16) -> Option<u16> {

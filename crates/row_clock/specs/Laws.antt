@@ -1,5 +1,5 @@
 -- What rows mean are the takes that they are of, so that the four laws hold of them. These are proofs: nothing here is believed.
-use Rattle.std.proofs.Common.{◌≡◌, ℕ, suc, ◌<◌, ◌≤◌, true, eqb, List, get_or, Some, Decides, sym, refl, ap, ◌∙◌, inl, inr, arith}
+use Rattle.std.proofs.Common.{◌≡◌, ℕ, suc, ◌<◌, ◌≤◌, true, eqb, List, length, get_or, Some, Decides, sym, refl, ap, ◌∙◌, inl, inr, arith}
 use mathlib.Core.Logic.{∥∥₁_elim, ∥∥₁_prop}
 use Rattle.std.proofs.lemmas.Bool.Decides.{same_from_decides}
 use Rattle.std.proofs.lemmas.Bool.{cases_eq, eq-eqb, or_left, and_from, and_parts, le-leb, leb-true}
@@ -14,7 +14,7 @@ use Rattle.clock.specs.Meaning.{Laws}
 use Rattle.clock.specs.Takes.{entries_of}
 use Rattle.clock.proofs.Takes.{OfTakes, entries_held, takes_lawful}
 use Rattle.row_clock.specs.declared.parts.Row.{Row}
-use Rattle.row_clock.specs.Rows.{no_row, cell, reaches, held_row, rows_mean, Keeps, Kept}
+use Rattle.row_clock.specs.Rows.{no_row, cell, reaches, held_row, held_rows, rows_mean, Keeps, Kept}
 
 -- an entry is the k-th of its node, where k is its own count there
 own_kth : (ts : List Entry) (x i : ℕ) → Mem x (timeline ts i) → at ts i (stamp ts x i) ≡ Some x
@@ -35,8 +35,8 @@ own_kth ts x i m =
           ))
     ]
 
-module _ (len : ℕ) (rows : List Row) (columns : List (ArrayVec ℕ)) (ts : List Entry) (k : Keeps len rows columns ts) where
-  pub reaches_past : (e x : ℕ) → e < len → reaches rows e x ≡ past ts e x
+module _ (rows : List Row) (columns : List (ArrayVec ℕ)) (ts : List Entry) (k : Keeps rows columns ts) where
+  pub reaches_past : (e x : ℕ) → e < length rows → reaches rows e x ≡ past ts e x
   reaches_past e x l = same_from_decides _ _ (there, back) ((λ h. h), λ h. h)
     where
       i : ℕ
@@ -55,14 +55,14 @@ module _ (len : ℕ) (rows : List Row) (columns : List (ArrayVec ℕ)) (ts : Lis
       back : past ts e x ≡ true → reaches rows e x ≡ true
       back h = let (low, _) = (pasts-lawful ts).no_higher e x h in and_from _ _ (le-leb x e low) (le-leb (cell rows x i) (cell rows e i) ((tell low).0 h))
 
-  pub entries_kept : listed (held_row rows) len ≡ entries_of ts
+  pub entries_kept : held_rows rows ≡ entries_of ts
   entries_kept =
       ap (listed (held_row rows)) (sym k.size)
       ∙ entries_held ts (held_row rows) (λ e l. let (ps, is) = k.placed e (omega (arith, k.size)) in (ps, is, λ x. reaches_past e x (omega (arith, k.size))))
 
-module _ (n len : ℕ) (rows : List Row) (columns : List (ArrayVec ℕ)) (kept : Kept len rows columns) where
-  pub of_takes : OfTakes (rows_mean n len rows)
-  of_takes = ∥∥₁_elim kept ∥∥₁_prop (λ (ts, k). ∣ (ts, entries_kept len rows columns ts k) ∣₁)
+module _ (n : ℕ) (rows : List Row) (columns : List (ArrayVec ℕ)) (kept : Kept rows columns) where
+  pub of_takes : OfTakes (rows_mean n rows)
+  of_takes = ∥∥₁_elim kept ∥∥₁_prop (λ (ts, k). ∣ (ts, entries_kept rows columns ts k) ∣₁)
 
-  pub rows_lawful : Laws (rows_mean n len rows)
+  pub rows_lawful : Laws (rows_mean n rows)
   rows_lawful = takes_lawful _ of_takes

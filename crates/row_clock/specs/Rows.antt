@@ -41,23 +41,27 @@ reaches rows e x = nat_le x e && nat_le (cell rows x (get_or rows x no_row).node
 abbrev pub held_row : List Row → ℕ → Held
 held_row rows e = record { node = (get_or rows e no_row).node; partner = (get_or rows e no_row).partner; past = reaches rows e }
 
-abbrev pub rows_mean : ℕ → ℕ → List Row → Meaning
-rows_mean n len rows = record { nodes = n; entries = listed (held_row rows) len }
+-- what all rows mean, newest first
+abbrev pub held_rows : List Row → List Held
+held_rows rows = listed (held_row rows) (length rows)
+
+abbrev pub rows_mean : ℕ → List Row → Meaning
+rows_mean n rows = record { nodes = n; entries = held_rows rows }
 
 -- ---- the entries of rows and columns
 
-pub record Keeps (len : ℕ) (rows : List Row) (columns : List (ArrayVec ℕ)) (ts : List Entry) : Type 0 where
-  pub size : length ts ≡ len
+pub record Keeps (rows : List Row) (columns : List (ArrayVec ℕ)) (ts : List Entry) : Type 0 where
+  pub size : length ts ≡ length rows
   -- each row has the nodes of its entry
-  pub placed : (e : ℕ) → e < len →
+  pub placed : (e : ℕ) → e < length rows →
       (priors : List ℕ) × (entry ts e ≡ Some (record { node = (get_or rows e no_row).node; partner = (get_or rows e no_row).partner; priors = priors }))
   -- and its timestamp
-  pub stamped : (e i : ℕ) → e < len → is_node max_nodes i ≡ true → cell rows e i ≡ stamp ts e i
+  pub stamped : (e i : ℕ) → e < length rows → is_node max_nodes i ≡ true → cell rows e i ≡ stamp ts e i
   -- each column is the timeline of its node
   pub filed : (i : ℕ) → is_node max_nodes i ≡ true → line_of columns i ≡ timeline ts i
 
-abbrev pub Kept : ℕ → List Row → List (ArrayVec ℕ) → Type 0
-Kept len rows columns = ∥ ((ts : List Entry) × Keeps len rows columns ts) ∥₁
+abbrev pub Kept : List Row → List (ArrayVec ℕ) → Type 0
+Kept rows columns = ∥ ((ts : List Entry) × Keeps rows columns ts) ∥₁
 
 -- ---- the steps of a take
 

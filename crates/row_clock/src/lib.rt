@@ -1,19 +1,21 @@
 //! A clock that keeps the row of counts of each entry and the column of each node, so that a question is one look-up.
 #![tactic(auto)]
 
-ghost use Rattle.std.specs.Prelude.{◌≡◌, ℕ, ◌+◌, ◌<◌, ◌≤◌, max, true, false, ◌∷◌, length, nat_lt, slice_index, slice_index_or};
+ghost use Rattle.std.specs.Prelude.{◌≡◌, ℕ, ◌+◌, ◌<◌, ◌≤◌, true, false, length, slice_index, slice_index_or};
 ghost use Rattle.arrayvec.specs.ArrayVec.{array_vec_len};
 ghost use Rattle.causality.specs.Entries.{is};
 ghost use Rattle.causality.specs.Limits.{max_nodes, is_node};
 ghost use Rattle.clock.specs.Meaning.{max_entries, blank, if_given};
-ghost use Rattle.row_clock.specs.Rows.{no_column, line, rows_mean, Kept, latest_of, cell_of, next_count, Filed};
+ghost use Rattle.row_clock.specs.Rows.{no_column, rows_mean, Kept, latest_of, cell_of, next_count, Filed};
 ghost use Rattle.row_clock.specs.Laws.{rows_lawful};
 
 mod parts;
 
 use arrayvec::ArrayVec;
-use clock::{Clock, ENTRIES, MAX_NODES, NODES, NewEntry, admits, is_node, knows};
-use parts::{Column, Predecessors, Row};
+use clock::{
+    Clock, ENTRIES, MAX_NODES, NODES, NewEntry, Predecessors, admits, is_node, knows,
+};
+use parts::{Column, Row};
 use std::array;
 
 /// A clock that keeps the row of each entry and the column of each node.
@@ -24,7 +26,7 @@ pub struct RowClock {
     columns: [Column; NODES],
     ghost long: { length columns ≡ max_nodes },
     ghost within: { (array_vec_len rows ≤ max_entries) × (nodes ≤ max_nodes) },
-    ghost kept: { Kept (array_vec_len rows) rows.items columns },
+    ghost kept: { Kept rows.items columns },
 }
 
 /// Appends entry e to the columns of its nodes.
@@ -46,7 +48,7 @@ impl RowClock {
     /// Sets n nodes and no entries.
     fn clear(&mut self, n: u16)
         requires { is_node max_nodes n ≡ true }
-        ensures { rows_mean self.new.nodes (array_vec_len self.new.rows) self.new.rows.items ≡ blank n }
+        ensures { rows_mean self.new.nodes self.new.rows.items ≡ blank n }
     {
         self.nodes = n;
         self.rows.clear();
@@ -73,42 +75,42 @@ impl RowClock {
         requires { is_node max_nodes i ≡ true }
         ensures { result ≡ cell_of self.now.rows.items e i }
     {
-        let row = e.and_then(|e| self.rows.get(e as usize).copied());
-        row.map_or(0, |row| row.counts[i as usize - 1])
+        e.and_then(|e| self.rows.get(e as usize))
+            .map_or(0, |row| row.counts[i as usize - 1])
     }
 
     /// The count at node i of a new entry after its immediate predecessors.
     fn next_count(&self, entry: NewEntry, before: Predecessors, i: u16) -> u16
         requires { is_node max_nodes i ≡ true }
-        ensures { result ≡ next_count self.now.rows.items self.now.columns entry.node entry.partner before.own before.other before.prior i }
+        ensures { result ≡ next_count self.now.rows.items self.now.columns entry.node entry.partner before.own before.other entry.prior i }
     {
         if entry.stands(i) {
             self.columns[i as usize - 1].len() as u16 + 1
         } else {
             self.cell(before.own, i)
                 .max(self.cell(before.other, i))
-                .max(self.cell(before.prior, i))
+                .max(self.cell(entry.prior, i))
         }
     }
 
     /// Its counts at all nodes.
     fn next_counts(&self, entry: NewEntry, before: Predecessors) -> [u16; NODES]
-        ensures { (i : ℕ) → i < max_nodes → slice_index result i ≡ next_count self.now.rows.items self.now.columns entry.node entry.partner before.own before.other before.prior (i + 1) }
+        ensures { (i : ℕ) → i < max_nodes → slice_index result i ≡ next_count self.now.rows.items self.now.columns entry.node entry.partner before.own before.other entry.prior (i + 1) }
     {
         array::from_fn(|i| self.next_count(entry, before, i as u16 + 1))
     }
 }
 
 impl Clock for RowClock {
-    ghost means = { λ s. rows_mean s.nodes (array_vec_len s.rows) s.rows.items };
+    ghost means = { λ s. rows_mean s.nodes s.rows.items };
 
-    ghost own = { λ s. (rows_lawful s.nodes (array_vec_len s.rows) s.rows.items s.columns s.kept).own };
+    ghost own = { λ s. (rows_lawful s.nodes s.rows.items s.columns s.kept).own };
 
-    ghost through = { λ s. (rows_lawful s.nodes (array_vec_len s.rows) s.rows.items s.columns s.kept).through };
+    ghost through = { λ s. (rows_lawful s.nodes s.rows.items s.columns s.kept).through };
 
-    ghost earliest = { λ s. (rows_lawful s.nodes (array_vec_len s.rows) s.rows.items s.columns s.kept).earliest };
+    ghost earliest = { λ s. (rows_lawful s.nodes s.rows.items s.columns s.kept).earliest };
 
-    ghost no_higher = { λ s. (rows_lawful s.nodes (array_vec_len s.rows) s.rows.items s.columns s.kept).no_higher };
+    ghost no_higher = { λ s. (rows_lawful s.nodes s.rows.items s.columns s.kept).no_higher };
 
     fn new() -> RowClock {
         RowClock {
@@ -134,7 +136,6 @@ impl Clock for RowClock {
         let before = Predecessors {
             own: self.latest(Some(entry.node)),
             other: self.latest(entry.partner),
-            prior: entry.prior,
         };
         let counts = self.next_counts(entry, before);
         file(&mut self.columns, entry, e);
@@ -147,11 +148,7 @@ impl Clock for RowClock {
     }
 
     fn count(&self, e: u16, i: u16) -> Option<u16> {
-        if knows(self.nodes, self.len(), e, i) {
-            Some(self.cell(Some(e), i))
-        } else {
-            None
-        }
+        knows(self.nodes, self.len(), e, i).then(|| self.cell(Some(e), i))
     }
 
     fn at(&self, i: u16, k: u16) -> Option<u16> {

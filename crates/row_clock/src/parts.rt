@@ -28,12 +28,3 @@ impl Default for Row {
 
 /// A node: the numbers of its entries, from the oldest.
 pub type Column = ArrayVec<u16, ENTRIES>;
-
-/// The immediate predecessors of an entry: the latest at its node, the latest at its partner, and the one that it follows by a
-/// message.
-#[derive(Clone, Copy)]
-pub struct Predecessors {
-    pub own: Option<u16>,
-    pub other: Option<u16>,
-    pub prior: Option<u16>,
-}

@@ -45,35 +45,33 @@ get_or-entry es u l =
     let back : length es - 1 - (length es - 1 - u) ≡ u = omega arith in
     ap (entry (reverse es)) (sym back) ∙ entry_turned es (length es - 1 - u) _ (get_or-newest es u l)
 
-module _ (vs : List Event) (n : ℕ) (μ ρ : Meaning) (es : List Event) (total : ℕ) (t : Traced vs n μ ρ es total) where
-  pub long : length vs ≡ total
-  long = ap length t.kept ∙ length-reverse (take total es) ∙ length-take-le total es t.room
+module _ (vs : List Event) (n : ℕ) (μ ρ : Meaning) (es : List Event) (t : Traced vs n μ ρ es) where
+  pub long : length vs ≡ length es
+  long = ap length t.kept ∙ length-reverse es
 
   pub event_kept : (u : ℕ) → u < length vs → entry vs u ≡ Some (get_or es u (Event.Local 0))
-  event_kept u l =
-      let low : u < length (take total es) = omega (arith, length-take-le total es t.room, long) in
-      ap (λ (xs : List Event). entry xs u) t.kept ∙ get_or-entry (take total es) u low ∙ ap Some (get_or-take total es u (Event.Local 0) (omega (arith, long)))
+  event_kept u l = ap (λ (xs : List Event). entry xs u) t.kept ∙ get_or-entry es u (omega (arith, long))
 
   pub count-fore : (u i : ℕ) → u < length vs → is_node n i ≡ true → or_zero (counted μ u i) ≡ fore vs u i
   count-fore u i l node = ap (λ (m : Meaning). or_zero (counted m u i)) t.ahead ∙ counted-stamp n from vs u i l node
 
-  pub count-aft : (u i : ℕ) → u < length vs → is_node n i ≡ true → or_zero (counted ρ (total - 1 - u) i) ≡ aft vs u i
+  pub count-aft : (u i : ℕ) → u < length vs → is_node n i ≡ true → or_zero (counted ρ ((length es) - 1 - u) i) ≡ aft vs u i
   count-aft u i l node =
       ap₂ (λ (m : Meaning) (k : ℕ). or_zero (counted m (k - 1 - u) i)) t.back (sym long)
       ∙ counted-stamp n into (reverse vs) (mirror vs u) i (omega (arith, length-reverse vs)) node
 
   -- the last event of a column has the column's length as its index, and the reverse clock has it first
-  pub column-counted : (i : ℕ) → is_node n i ≡ true → column_length μ ρ total i ≡ length (events_at vs i)
+  pub column-counted : (i : ℕ) → is_node n i ≡ true → column_length μ ρ (length es) i ≡ length (events_at vs i)
   column-counted i node =
       let first : found ρ i 1 ≡ entry (events_at (reverse vs) i) 0 =
       ap (λ (m : Meaning). found m i 1) t.back ∙ (meanings_answer n (backward vs) 0 i 1).1 ∙ cond-true _ _ _ node
       ∙ ap (λ (c : List ℕ). entry c 0) (timeline-events into (reverse vs) i) in
-      ap (last_index μ total i) first ∙ go (events_at vs i) refl
+      ap (last_index μ (length es) i) first ∙ go (events_at vs i) refl
     where
-      go : (c : List ℕ) → events_at vs i ≡ c → last_index μ total i (entry (events_at (reverse vs) i) 0) ≡ length (events_at vs i)
+      go : (c : List ℕ) → events_at vs i ≡ c → last_index μ (length es) i (entry (events_at (reverse vs) i) 0) ≡ length (events_at vs i)
       go [] e =
           let none : events_at (reverse vs) i ≡ [] = nil_from_length _ (length-picked (λ _ us. length us) (λ v. stands v i) (reverse vs) ∙ tally-reverse (λ v. stands v i) vs ∙ sym (length-picked (λ _ us. length us) (λ v. stands v i) vs) ∙ ap length e) in
-          ap (λ (c : List ℕ). last_index μ total i (entry c 0)) none ∙ sym (ap length e)
+          ap (λ (c : List ℕ). last_index μ (length es) i (entry c 0)) none ∙ sym (ap length e)
       go (x ∷ rest) e =
           let mine : Mem x (events_at vs i) = subst (Mem x) (sym e) (inl refl) in
           let (v, here, stood) = numbers_out (λ w. stands w i) vs x mine in
@@ -82,8 +80,8 @@ module _ (vs : List Event) (n : ℕ) (μ ρ : Meaning) (es : List Event) (total 
           let count : tally (λ w. stands w i) vs - 1 - length rest ≡ 0 = omega (arith, length-picked (λ _ us. length us) (λ w. stands w i) vs, ap length e) in
           let turned : entry (events_at (reverse vs) i) 0 ≡ Some (length vs - 1 - x) =
           ap (entry (events_at (reverse vs) i)) (sym count) ∙ numbers_turned (λ w. stands w i) vs (length rest) x top in
-          let back : total - 1 - (length vs - 1 - x) ≡ x = omega (arith, long) in
+          let back : (length es) - 1 - (length vs - 1 - x) ≡ x = omega (arith, long) in
           let at : position (x ∷ rest) x ≡ Some (suc (length rest)) = cond-true _ _ _ (eq-eqb x x refl) in
           let own : Some (suc (length rest)) ≡ Some (fore vs x i) = sym at ∙ ap (λ (c : List ℕ). position c x) (sym e) ∙ index_is_stamp vs x i v here ∙ cond-true _ _ _ stood in
           let same : suc (length rest) ≡ fore vs x i = cc in
-          ap (last_index μ total i) turned ∙ ap (λ (k : ℕ). or_zero (counted μ k i)) back ∙ count-fore x i low node ∙ sym same ∙ sym (ap length e)
+          ap (last_index μ (length es) i) turned ∙ ap (λ (k : ℕ). or_zero (counted μ k i)) back ∙ count-fore x i low node ∙ sym same ∙ sym (ap length e)

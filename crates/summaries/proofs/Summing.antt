@@ -34,7 +34,7 @@ at_row : (f : ℕ → ℕ) (n i : ℕ) → n ≤ 16 → is_node n i ≡ true →
 at_row f n zero few e = absurd (false≢true e)
 at_row f n (suc j) few e = get_or-row f 16 j (omega (arith, node-low n (suc j) e))
 
-module _ (vs : List Event) (n : ℕ) (μ ρ : Meaning) (es : List Event) (total : ℕ) (t : Traced vs n μ ρ es total) (x : ℕ) (xs : List ℕ) (held : AllByRecursion (λ u. u < length vs) (x ∷ xs)) (i : ℕ) (node : is_node n i ≡ true) where
+module _ (vs : List Event) (n : ℕ) (μ ρ : Meaning) (es : List Event) (t : Traced vs n μ ρ es) (x : ℕ) (xs : List ℕ) (held : AllByRecursion (λ u. u < length vs) (x ∷ xs)) (i : ℕ) (node : is_node n i ≡ true) where
   module _ (f : ℕ → ℕ → ℕ) (associative : (a b c : ℕ) → f (f a b) c ≡ f a (f b c)) (ms : List ℕ) (members : ms ≡ x ∷ xs) (r : Row) where
     -- rows joined by f
     at_joined : (of : ℕ → Row) → ((u : ℕ) → length (of u).counts ≡ 16) → r ≡ or_zeros (joined_all (op f associative) (map of ms)) → at_node r i ≡ joined f (λ u. at_node (of u) i) x xs
@@ -50,12 +50,12 @@ module _ (vs : List Event) (n : ℕ) (μ ρ : Meaning) (es : List Event) (total 
     pub at-past : r ≡ or_zeros (joined_all (op f associative) (map (count_row μ) ms)) → at_node r i ≡ joined f (λ u. fore vs u i) x xs
     at-past e =
         at_joined (count_row μ) (λ u. length-row (λ j. or_zero (counted μ u j)) 16) e
-        ∙ joined_like f _ _ x xs (all_held (λ u l. at_row (λ j. or_zero (counted μ u j)) n i t.nodes node ∙ count-fore vs n μ ρ es total t u i l node) (x ∷ xs) held)
+        ∙ joined_like f _ _ x xs (all_held (λ u l. at_row (λ j. or_zero (counted μ u j)) n i t.nodes node ∙ count-fore vs n μ ρ es t u i l node) (x ∷ xs) held)
 
-    pub at_future : r ≡ or_zeros (joined_all (op f associative) (map (row_from_last ρ total) ms)) → at_node r i ≡ joined f (λ u. aft vs u i) x xs
+    pub at_future : r ≡ or_zeros (joined_all (op f associative) (map (row_from_last ρ (length es)) ms)) → at_node r i ≡ joined f (λ u. aft vs u i) x xs
     at_future e =
-        at_joined (row_from_last ρ total) (λ u. length-row (λ j. or_zero (counted ρ (total - 1 - u) j)) 16) e
-        ∙ joined_like f _ _ x xs (all_held (λ u l. at_row (λ j. or_zero (counted ρ (total - 1 - u) j)) n i t.nodes node ∙ count-aft vs n μ ρ es total t u i l node) (x ∷ xs) held)
+        at_joined (row_from_last ρ (length es)) (λ u. length-row (λ j. or_zero (counted ρ ((length es) - 1 - u) j)) 16) e
+        ∙ joined_like f _ _ x xs (all_held (λ u l. at_row (λ j. or_zero (counted ρ ((length es) - 1 - u) j)) n i t.nodes node ∙ count-aft vs n μ ρ es t u i l node) (x ∷ xs) held)
 
     own-long : (u : ℕ) → length (own_row_of μ es u).counts ≡ 16
     own-long u = elim (cases_Bool (ltb u (length es))) [ inl s ↦ rw s (length-row (own_count μ (get_or es u (Event.Local 0)) u) 16) | inr s ↦ rw s ]
@@ -64,14 +64,14 @@ module _ (vs : List Event) (n : ℕ) (μ ρ : Meaning) (es : List Event) (total 
     own-index : (u : ℕ) → u < length vs → present (at_node (own_row_of μ es u) i) ≡ index vs i u
     own-index u l =
         let v : Event = get_or es u (Event.Local 0) in
-        let stamped = index_is_stamp vs u i v (event_kept vs n μ ρ es total t u l) in
-        let low : ltb u (length es) ≡ true = lt-ltb u (length es) (omega (arith, long vs n μ ρ es total t, t.room)) in
+        let stamped = index_is_stamp vs u i v (event_kept vs n μ ρ es t u l) in
+        let low : ltb u (length es) ≡ true = lt-ltb u (length es) (omega (arith, long vs n μ ρ es t)) in
         ap (λ (q : Row). present (at_node q i)) (cond-true _ (own_row μ v u) _ low) ∙ ap present (at_row (own_count μ v u) n i t.nodes node)
         ∙ elim (cases_Bool (stands v i)) [
           | inl s ↦
               let some : index vs i u ≡ Some (fore vs u i) = stamped ∙ cond-true _ _ _ s in
               let (k, next, _) = position-entry (events_at vs i) u (fore vs u i) some in
-              rw s (ap present (count-fore vs n μ ρ es total t u i l node) ∙ present_suc (fore vs u i) k next ∙ sym some)
+              rw s (ap present (count-fore vs n μ ρ es t u i l node) ∙ present_suc (fore vs u i) k next ∙ sym some)
           | inr s ↦ rw (s, stamped, s)
         ]
 
@@ -80,14 +80,14 @@ module _ (vs : List Event) (n : ℕ) (μ ρ : Meaning) (es : List Event) (total 
     at_own g keeps e = ap present (at_joined (own_row_of μ es) own-long e) ∙ present-joined f g keeps _ (index vs i) x xs (all_held own-index (x ∷ xs) held)
 
   -- a count from the end of a column, as an index from its front
-  pub at_end : (ends counts r : Row) (c : ℕ) → ends ≡ lengths-row μ ρ total → at_node counts i ≡ c →
+  pub at_end : (ends counts r : Row) (c : ℕ) → ends ≡ lengths-row μ ρ (length es) → at_node counts i ≡ c →
       ((j : ℕ) → j < 16 → get_or r.counts j 0 ≡ from_column_end (get_or ends.counts j 0) (get_or counts.counts j 0)) → at_node r i ≡ from_end vs i c
   at_end ends counts r c e same turned =
       let column : at_node ends i ≡ length (events_at vs i) =
-      ap (λ (q : Row). at_node q i) e ∙ at_row (column_length μ ρ total) n i t.nodes node ∙ column-counted vs n μ ρ es total t i node in
+      ap (λ (q : Row). at_node q i) e ∙ at_row (column_length μ ρ (length es)) n i t.nodes node ∙ column-counted vs n μ ρ es t i node in
       let short = column_short vs i in
       let few = t.few in
-      let whole = long vs n μ ρ es total t in
+      let whole = long vs n μ ρ es t in
       go i node ∙ ap₂ from_column_end column same ∙ omega arith
     where
       go : (k : ℕ) → is_node n k ≡ true → at_node r k ≡ from_column_end (at_node ends k) (at_node counts k)

@@ -10,7 +10,7 @@ ghost use Rattle.records.specs.Summaries.{at_node};
 ghost use Rattle.summaries.specs.Rows.{from_column_end, own_count, own_row, own_row_of};
 
 use causality::Event;
-use clock::{Clock, stands};
+use clock::Clock;
 use counting::NO_ROW;
 use gathering::{Joining, Row, gather_by};
 use std::array;
@@ -35,25 +35,22 @@ fn twice(row: Row) -> (Row, Row)
 pub(crate) fn own_row_of<C: Clock>(clock: &C, events: &[Event], e: u16) -> Row
     ensures { result ≡ own_row_of (C.Clock.means clock.now) events.now e }
 {
-    match events.get(e as usize) {
-        Some(event) => own_row(clock, *event, e),
-        None => NO_ROW,
-    }
+    events
+        .get(e as usize)
+        .map_or(NO_ROW, |event| own_row(clock, *event, e))
 }
 
 // The counts of an event at its own nodes; 0 at the others.
 fn own_row<C: Clock>(clock: &C, event: Event, e: u16) -> Row
     ensures { result ≡ own_row (C.Clock.means clock.now) event e }
 {
-    Row {
-        counts: array::from_fn(|i| own_count(clock, event, e, i as u16 + 1)),
-    }
+    Row::at_nodes(|i| own_count(clock, event, e, i))
 }
 
 fn own_count<C: Clock>(clock: &C, event: Event, e: u16, i: u16) -> u16
     ensures { result ≡ own_count (C.Clock.means clock.now) event e i }
 {
-    if stands(event.node(), event.partner(), i) {
+    if event.stands(i) {
         clock.count(e, i).unwrap_or(0)
     } else {
         0

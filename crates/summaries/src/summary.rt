@@ -2,11 +2,12 @@
 
 ghost use Rattle.summaries.specs.Members.{listed};
 ghost use Rattle.summaries.specs.Summed.{Summed};
-ghost use Rattle.std.specs.Prelude.{◌≡◌, length};
+ghost use Rattle.std.specs.Prelude.{◌≡◌};
 
 use crate::members::Members;
 use crate::rows::{bounds, from_end, own_row_of};
 use crate::trace::Trace;
+use causality::from_last;
 use clock::Clock;
 use counting::row_of;
 use gathering::{Earliest, Greatest, Least};
@@ -19,7 +20,7 @@ pub fn summarize<F: Clock, R: Clock>(
     members: &Members,
 ) -> Operation
     ensures name { result.name ≡ name }
-    ensures summed { Summed (F.Clock.means trace.now.forward.now) (R.Clock.means trace.now.reverse.now) trace.now.events.now (length trace.now.events.now) (listed members.now) result }
+    ensures summed { Summed (F.Clock.means trace.now.forward.now) (R.Clock.means trace.now.reverse.now) trace.now.events.now (listed members.now) result }
 {
     let held = &members.events[..members.len as usize];
     let (first, last) = bounds::<Earliest, Greatest, _>(
@@ -29,7 +30,7 @@ pub fn summarize<F: Clock, R: Clock>(
     let (joint_past, whole_past) = bounds::<Least, Greatest, _>(held, |e| row_of(trace.forward, e));
     let (least, greatest) = bounds::<Least, Greatest, _>(
         held,
-        |e| row_of(trace.reverse, trace.from_last(e)),
+        |e| row_of(trace.reverse, from_last(trace.len(), e)),
     );
     let ends = trace.lengths();
     Operation {

@@ -1,13 +1,12 @@
 //! A trace that both clocks took.
 
-ghost use Rattle.std.specs.Prelude.{◌≡◌, ◌-◌, ◌≤◌, length};
+ghost use Rattle.std.specs.Prelude.{◌≡◌, ◌≤◌, length};
 ghost use Rattle.causality.specs.Limits.{max_events};
 ghost use Rattle.summaries.specs.Rows.{column_length, length-row};
 
-use causality::Event;
+use causality::{Event, from_last};
 use clock::Clock;
 use gathering::Row;
-use std::array;
 
 /// A trace that two clocks took, one of them from its last event to its first.
 pub struct Trace<'a, F, R> {
@@ -19,31 +18,26 @@ pub struct Trace<'a, F, R> {
 }
 
 impl<F: Clock, R: Clock> Trace<'_, F, R> {
-    // Event e, counted from the last one; and back.
-    pub(crate) fn from_last(&self, e: u16) -> u16
-        ensures { result ≡ length self.now.events.now - 1 - e }
+    // How many events there are.
+    pub(crate) fn len(&self) -> u16
+        ensures { result ≡ length self.now.events.now }
     {
-        (self.events.len() as u16)
-            .saturating_sub(1)
-            .saturating_sub(e)
+        self.events.len() as u16
     }
 
     // How many events each node has.
     pub(crate) fn lengths(&self) -> Row
         ensures { result ≡ length-row (F.Clock.means self.now.forward.now) (R.Clock.means self.now.reverse.now) (length self.now.events.now) }
     {
-        Row {
-            counts: array::from_fn(|i| self.column_length(i as u16 + 1)),
-        }
+        Row::at_nodes(|i| self.column_length(i))
     }
 
     // How many events node i has: the index of its last event, which the reverse clock has as its first.
     fn column_length(&self, i: u16) -> u16
         ensures { result ≡ column_length (F.Clock.means self.now.forward.now) (R.Clock.means self.now.reverse.now) (length self.now.events.now) i }
     {
-        match self.reverse.at(i, 1) {
-            Some(e) => self.forward.count(self.from_last(e), i).unwrap_or(0),
-            None => 0,
-        }
+        let events = self.len();
+        let last = self.reverse.at(i, 1).map(|e| from_last(events, e));
+        last.and_then(|e| self.forward.count(e, i)).unwrap_or(0)
     }
 }

@@ -1,44 +1,27 @@
--- A search passes each entry from the oldest up.
-use Rattle.std.proofs.Common.{◌≡◌, ℕ, List, length, get_or, Bool, true, sym, ap, ◌∙◌, arith}
-use Rattle.std.proofs.lemmas.Bool.{cond-true, cond-false}
-use Rattle.causality.specs.Entries.{at_either, timeline}
+-- The k-th of the entries that stand at the node.
+use Rattle.std.proofs.Common.{◌≡◌, ℕ, ◌+◌, ◌-◌, ◌<◌, ◌∙◌, Some, None, Option, MatchOption, Bor, length, ap, sym, arith, rules, tests}
+use Rattle.std.specs.Option.{option_map}
+use Rattle.std.proofs.lemmas.Iterator.{YieldsList-from_slice}
+use Rattle.std.proofs.lemmas.Iterator.Consumers.{YieldsList-at, YieldsList-from_enumerate, YieldsList-from_filter, nth_from_yields_List}
+use Rattle.causality.specs.Entries.{at}
 use Rattle.link_clock.specs.declared.Link.{Link}
-use Rattle.link_clock.specs.Links.{no_link, takes_of}
-use Rattle.link_clock.proofs.Finds.{at_none, at_here, timeline-more}
+use Rattle.link_clock.specs.Links.{all_takes}
+use Rattle.link_clock.proofs.Finds.{stands_at, found-at, found-low}
 use Rattle.link_clock.proofs.LinkClock.find.Goals as goal
-use Rattle.link_clock.proofs.LinkClock.find.Goals.{then-stands+else-height-k, else-stands}
 
--- the entry that a search passes
-stands : (links seen : List Link) (i x : ℕ) (b : Bool) → seen ≡ links → b ≡ at_either (get_or seen x no_link).entry.node (get_or seen x no_link).entry.partner i →
-    b ≡ at_either (get_or links x no_link).entry.node (get_or links x no_link).entry.partner i
-stands links seen i x b is test = test ∙ ap (λ (ls : List Link). at_either (get_or ls x no_link).entry.node (get_or ls x no_link).entry.partner i) is
-
-pub returns-then-height-k : goal.returns-then-height-k
-returns-then-height-k c =
-    let links = c.args.self.now.links.items in
-    let seen = c.deref-link-items.ensures.0 in
-    let here = stands links c.deref-link-items.result.now c.args.i c.loop-x.x true seen c.if-stands.ensures in
-    sym (at_here links c.args.i (length links) c.loop-x.x c.args.k (omega (arith, c.loop-x-test.true, ap length seen)) (sym here) (omega (arith, c.loop-x.invariant.0, c.if-height-k.true)))
-
-pub loop-x-preserved : goal.loop-x-preserved
-loop-x-preserved c =
-    let links = c.args.self.now.links.items in
-    let more = timeline-more links c.args.i c.loop-x.x in
-    let test = stands links c.deref-link-items.result.now c.args.i c.loop-x.x c.stands.result c.deref-link-items.ensures.0 c.stands.ensures in
-    let (h, l) = c.loop-x.invariant in
-    elim c.if-stands.branch [
-      | then-stands+else-height-k w ↦
-          let k = ap length (more ∙ cond-true _ _ _ (sym test ∙ w.if-stands.true)) in
-          (omega (arith, w.height-is, h, k), omega (arith, w.height-is, l, w.if-height-k.false))
-      | else-stands w ↦
-          let k = ap length (more ∙ cond-false _ _ _ (sym test ∙ w.if-stands.false)) in
-          (omega (arith, w.height-is, h, k), omega (arith, w.height-is, l))
-    ]
+cast : (o : Option (ℕ × Bor Link)) (all answer : Option ℕ) → MatchOption o (answer ≡ None) (λ p. p.0 < 65536 → answer ≡ Some p.0) →
+    option_map (λ (p : ℕ × Link). p.0) (option_map (λ (p : ℕ × Bor Link). (p.0, p.1.now)) o) ≡ all → ((x : ℕ) → all ≡ Some x → x < 65536) → answer ≡ all
+cast None all answer step is low = step ∙ is
+cast (Some p) all answer step is low = step (low p.0 (sym is)) ∙ is
 
 pub returns : goal.returns
 returns c =
     let links = c.args.self.now.links.items in
-    let end : c.loop-x.x ≡ length links = omega (arith, c.loop-x-test.false, c.loop-x.auto, ap length c.deref-link-items.ensures.0) in
-    let h : c.loop-x.height ≡ length (timeline (takes_of links (length links)) c.args.i) =
-    c.loop-x.invariant.0 ∙ ap (λ (n : ℕ). length (timeline (takes_of links n) c.args.i)) end in
-    sym (at_none (takes_of links (length links)) c.args.i c.args.k (omega (arith, h, c.loop-x.invariant.1)))
+    let i = c.args.i in
+    let numbered = YieldsList-from_enumerate (YieldsList-at c.enumerate.ensures.source (YieldsList-from_slice links (c.iter.ensures.rest ∙ c.deref.ensures.0))) c.enumerate.ensures.count in
+    let nth = nth_from_yields_List c.nth.result _ _ c.nth.ensures.ran
+    (YieldsList-from_filter _ (stands_at links i) (YieldsList-at c.filter-standing.ensures.source numbered) c.filter-standing.ensures.closure (λ x r q k. search (rules, tests))) in
+    let step : MatchOption c.nth.result (c.map.result ≡ None) (λ p. p.0 < 65536 → c.map.result ≡ Some p.0) = search (rules, tests) in
+    let found = ap (option_map (λ (p : ℕ × Link). p.0)) nth ∙ found-at links i (c.args.k - 1) in
+    let back : c.args.k - 1 + 1 ≡ c.args.k = omega arith in
+    cast c.nth.result _ c.map.result step found (λ x e. omega (arith, found-low links i (c.args.k - 1) x e, c.args.self.now.within)) ∙ ap (at (all_takes links) i) back

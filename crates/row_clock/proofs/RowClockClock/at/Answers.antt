@@ -21,5 +21,5 @@ returns c =
     let column = get_or_default s.columns (c.args.i - 1) c.index-self-i.result no_column (omega (arith, s.long, s.within)) in
     got ∙ ap₂ slice_get (c.deref.ensures.0 ∙ ap (λ (d : ArrayVec ℕ). d.items) column) place
     ∙ kth_is _ c.args.k some
-    ∙ ap (λ (l : List ℕ). kth l c.args.k) (line_held s.nodes (length s.rows.items) s.rows.items s.columns s.within.1 s.kept c.args.i has)
+    ∙ ap (λ (l : List ℕ). kth l c.args.k) (line_held s.nodes s.rows.items s.columns s.within.1 s.kept c.args.i has)
     ∙ sym (cond-true _ _ _ has)

@@ -8,13 +8,13 @@ use Rattle.row_clock.specs.declared.parts.Row.{Row}
 use Rattle.arrayvec.specs.ArrayVec.{ArrayVec}
 use Rattle.row_clock.specs.declared.RowClock.{RowClock}
 use Rattle.row_clock.specs.Rows.{held_row, rows_mean, Kept, latest_of, next_count, Filed}
-use Rattle.row_clock.proofs.Rows.{column-room, kept_more, entries-more}
+use Rattle.row_clock.proofs.Rows.{column-room, kept_more, held_more}
 use Rattle.row_clock.proofs.RowClockClock.take.Goals as goal
 
 pub returns-then-not-admits : goal.returns-then-not-admits
 returns-then-not-admits c =
     let s = c.args.self.now in
-    let (same, none) = take_refused (rows_mean s.nodes (length s.rows.items) s.rows.items) (length s.rows.items) (length-listed (held_row s.rows.items) (length s.rows.items)) c.args.entry.node c.args.entry.partner c.args.entry.prior (rw c.len-e.ensures at c.if-not-admits.ensures) in
+    let (same, none) = take_refused (rows_mean s.nodes s.rows.items) (length s.rows.items) (length-listed (held_row s.rows.items) (length s.rows.items)) c.args.entry.node c.args.entry.partner c.args.entry.prior (rw c.len-e.ensures at c.if-not-admits.ensures) in
     record { after = same; value = none }
 
 module _ (s : RowClock) (a : ℕ) (b m : Option ℕ) (h : true ≡ admits s.nodes (length s.rows.items) a b m) where
@@ -25,20 +25,19 @@ module _ (s : RowClock) (a : ℕ) (b m : Option ℕ) (h : true ≡ admits s.node
   grown : (x y : Option ℕ) (row : Row) (rows : List Row) (columns : List (ArrayVec ℕ)) → x ≡ latest_of s.columns (Some a) → y ≡ latest_of s.columns b → row.node ≡ a → row.partner ≡ b →
       ((i : ℕ) → i < max_nodes → get_or row.counts i 0 ≡ next_count s.rows.items s.columns a b x y m (i + 1)) → Filed s.columns a b (length s.rows.items) columns →
       rows ≡ s.rows.items ++ (row ∷ []) →
-      Kept (length rows) rows columns
-      × (rows_mean s.nodes (length rows) rows ≡ taken (rows_mean s.nodes (length s.rows.items) s.rows.items) a b m)
-      × (Some (length s.rows.items) ≡ number (rows_mean s.nodes (length s.rows.items) s.rows.items) a b m)
+      Kept rows columns
+      × (rows_mean s.nodes rows ≡ taken (rows_mean s.nodes s.rows.items) a b m)
+      × (Some (length s.rows.items) ≡ number (rows_mean s.nodes s.rows.items) a b m)
   grown x y row rows columns p q node partner counts filed is =
       let held = s.rows.items in
       let len = length held in
       let counts' : (i : ℕ) → i < max_nodes → get_or row.counts i 0 ≡ next_count held s.columns a b (latest_of s.columns (Some a)) (latest_of s.columns b) m (i + 1) =
       rw (← p, ← q) counts in
-      let longer : length rows ≡ len + 1 = ap length is ∙ length-append held _ in
-      let (after, value) = take-accepted (rows_mean s.nodes len held) len (length-listed (held_row held) len) a b m h in
-      rw (longer, is) (
-        kept_more len held s.columns columns a b m row refl ok node partner filed counts' s.kept,
+      let (after, value) = take-accepted (rows_mean s.nodes held) len (length-listed (held_row held) len) a b m h in
+      rw is (
+        kept_more held s.columns columns a b m row ok node partner filed counts' s.kept,
         ap (λ (vs : List Held). let s : Meaning = record { nodes = s.nodes; entries = vs } in s)
-            (entries-more len held s.columns columns a b m row refl ok node partner filed counts' s.kept) ∙ after,
+            (held_more held s.columns columns a b m row ok node partner filed counts' s.kept) ∙ after,
         value,
       )
 
@@ -46,7 +45,7 @@ pub file-requires : goal.file-requires
 file-requires c =
     let s = c.args.self.now in
     let k = ok s c.args.entry.node c.args.entry.partner c.args.entry.prior (rw c.len-e.ensures at c.if-not-admits.ensures) in
-    record { node = k.node; partner = k.partner; apart = k.apart; room = λ i l. omega (arith, column-room s.nodes (length s.rows.items) s.rows.items s.columns s.within.1 s.kept i l, k.room) }
+    record { node = k.node; partner = k.partner; apart = k.apart; room = λ i l. omega (arith, column-room s.nodes s.rows.items s.columns s.within.1 s.kept i l, k.room) }
 
 pub invariant_of-self : goal.invariant_of-self
 invariant_of-self c =

@@ -24,7 +24,6 @@ pub returns-clause-summed : goal.returns-clause-summed
 returns-clause-summed g c vs n x xs t members held =
     let m = c.args.members.now in
     let es = c.args.trace.now.events.now in
-    let total = length es in
     let μ = g.F.Clock.means c.args.trace.now.forward.now in
     let ρ = g.R.Clock.means c.args.trace.now.reverse.now in
     let ms = take m.len m.events in
@@ -33,14 +32,14 @@ returns-clause-summed g c vs n x xs t members held =
     let (ahead, ahead_each, near, far) = c.bounds-3.ensures in
     let own_is = made_map _ (own_row_of μ es) ms own own_each (λ x y h. search rules) in
     let whole_is = made_map _ (count_row μ) ms whole whole_each (λ x y h. search rules) in
-    let ahead_is = made_map _ (row_from_last ρ total) ms ahead ahead_each (λ x y h. search rules) in
+    let ahead_is = made_map _ (row_from_last ρ (length es)) ms ahead ahead_each (λ x y h. search rules) in
     record {
       members = members;
       held = held;
-      firsts = λ i node. at_own vs n μ ρ es total t x xs held i node earliest earliest_associative ms members c.bounds.result.0 min present-earliest (bound earliest earliest_associative (own_row_of μ es) ms own _ own_is first);
-      lasts = λ i node. at_own vs n μ ρ es total t x xs held i node max most ms members c.bounds.result.1 max present-greatest (bound max most (own_row_of μ es) ms own _ own_is last);
-      joint_pasts = λ i node. at-past vs n μ ρ es total t x xs held i node min least ms members c.bounds-2.result.0 (bound min least (count_row μ) ms whole _ whole_is joint_past);
-      whole_pasts = λ i node. at-past vs n μ ρ es total t x xs held i node max most ms members c.bounds-2.result.1 (bound max most (count_row μ) ms whole _ whole_is whole_past);
-      first_reaches = λ i node. at_end vs n μ ρ es total t x xs held i node c.lengths-ends.result c.bounds-3.result.1 c.from_end.result _ c.lengths-ends.ensures (at_future vs n μ ρ es total t x xs held i node max most ms members c.bounds-3.result.1 (bound max most (row_from_last ρ total) ms ahead _ ahead_is far)) c.from_end.ensures;
-      joint_reaches = λ i node. at_end vs n μ ρ es total t x xs held i node c.lengths-ends.result c.bounds-3.result.0 c.from_end-2.result _ c.lengths-ends.ensures (at_future vs n μ ρ es total t x xs held i node min least ms members c.bounds-3.result.0 (bound min least (row_from_last ρ total) ms ahead _ ahead_is near)) c.from_end-2.ensures;
+      firsts = λ i node. at_own vs n μ ρ es t x xs held i node earliest earliest_associative ms members c.bounds.result.0 min present-earliest (bound earliest earliest_associative (own_row_of μ es) ms own _ own_is first);
+      lasts = λ i node. at_own vs n μ ρ es t x xs held i node max most ms members c.bounds.result.1 max present-greatest (bound max most (own_row_of μ es) ms own _ own_is last);
+      joint_pasts = λ i node. at-past vs n μ ρ es t x xs held i node min least ms members c.bounds-2.result.0 (bound min least (count_row μ) ms whole _ whole_is joint_past);
+      whole_pasts = λ i node. at-past vs n μ ρ es t x xs held i node max most ms members c.bounds-2.result.1 (bound max most (count_row μ) ms whole _ whole_is whole_past);
+      first_reaches = λ i node. at_end vs n μ ρ es t x xs held i node c.lengths-ends.result c.bounds-3.result.1 c.from_end.result _ c.lengths-ends.ensures (at_future vs n μ ρ es t x xs held i node max most ms members c.bounds-3.result.1 (bound max most (row_from_last ρ (length es)) ms ahead _ ahead_is far)) c.from_end.ensures;
+      joint_reaches = λ i node. at_end vs n μ ρ es t x xs held i node c.lengths-ends.result c.bounds-3.result.0 c.from_end-2.result _ c.lengths-ends.ensures (at_future vs n μ ρ es t x xs held i node min least ms members c.bounds-3.result.0 (bound min least (row_from_last ρ (length es)) ms ahead _ ahead_is near)) c.from_end-2.ensures;
     }
