@@ -20,14 +20,14 @@ use Rattle.history.proofs.Lawful.{may_lawful, may_local, may_send, may_receive, 
 use Rattle.history.proofs.Passed.{passed}
 use Rattle.records.specs.declared.messages.Sent.{Sent}
 use Rattle.records.specs.Messages.{sent_of}
-use Rattle.feeding.specs.Posted.{posted}
+use Rattle.feeding.specs.Posted.{noted, posted}
 use Rattle.feeding.proofs.Posts.{posted-sent}
 use Rattle.feeding.proofs.Taking.{taken-entry, numbers_never}
 use Rattle.counting.specs.Counting.{or_zero}
 use Rattle.correlator.specs.declared.trace.Trace.{Trace}
 use Rattle.history.specs.Answers.{next_place}
 use Rattle.correlator.specs.Told.{Told, history}
-use Rattle.correlator.specs.Trace.{told, traced, noted}
+use Rattle.correlator.specs.Trace.{told, traced}
 use Rattle.correlator.specs.Sound.{fed, fed_back, Sound, Next}
 use Rattle.correlator.proofs.Refusals.{told-length}
 

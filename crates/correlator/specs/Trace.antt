@@ -2,17 +2,12 @@
 --
 --   told t      what the fields of a trace tell: its events lie oldest first
 --   traced t    the history that this is
---   noted v n held   what a table that held some messages holds once it noted what v, the event of number n, sends or receives
-use Rattle.std.specs.Prelude.{ℕ, Bool, cond, not, ◌&&◌, List, [], ◌∷◌, length, reverse, Some, None, Option, ◌==◌, nat_le}
-use Rattle.causality.specs.declared.Event.{Event}
-use Rattle.causality.specs.Entries.{is}
-use Rattle.causality.specs.Traces.{node_of, sends, receives}
+use Rattle.std.specs.Prelude.{ℕ, Bool, not, ◌&&◌, List, [], ◌∷◌, length, reverse, ◌==◌, nat_le}
 use Rattle.causality.specs.Limits.{max_events, is_node}
 use Rattle.history.specs.declared.refusal.Refusal.{Refusal}
 use Rattle.history.specs.History.{History, is_idle, is_closed, is_none}
 use Rattle.history.specs.Calls.{in_trace}
-use Rattle.records.specs.declared.messages.Sent.{Sent}
-use Rattle.records.specs.Messages.{sent_of, received}
+use Rattle.records.specs.Messages.{sent_of}
 use Rattle.feeding.specs.Posted.{is_received, is_by}
 use Rattle.correlator.specs.declared.trace.Trace.{Trace}
 use Rattle.correlator.specs.Told.{Told, history}
@@ -22,13 +17,6 @@ told t = record { stage = t.stage; nodes = t.nodes; events = reverse t.events.it
 
 abbrev pub traced : Trace → History
 traced t = history (told t)
-
-abbrev pub noted : Event → ℕ → (ℕ → Option Sent) → ℕ → Option Sent
-noted v n held m =
-    cond
-    (is (sends v) m)
-    (Some (record { message = m; node = node_of v; event = n; receipt = None }))
-    (cond (is (receives v) m) (received n (held m)) (held m))
 
 -- ---- refusals
 

@@ -1,5 +1,6 @@
 -- What the table of messages holds, told by the events alone, and what a clock means that is fed a trace from last to first.
 --
+--   noted v n held          what a table that held some messages holds once it noted what v, the event of number n, sends or receives
 --   posted vs m             the record of message m: its sender, the event that sent it, and the event that received it, if any
 --   follower held len v     the entry of the receive of what v sends, where `held` is the table and the last of len events is entry 0
 --   fed_through μ follows vs   what a clock means that meant μ and took some events, the first of them last, each with the entry that `follows` gives
@@ -12,13 +13,16 @@ use Rattle.history.specs.History.{is_none}
 use Rattle.records.specs.declared.messages.Sent.{Sent}
 use Rattle.records.specs.Messages.{received}
 
-abbrev pub posted : List Event → ℕ → Option Sent
-posted [] m = None
-posted (v ∷ vs) m =
+abbrev pub noted : Event → ℕ → (ℕ → Option Sent) → ℕ → Option Sent
+noted v n held m =
     cond
     (is (sends v) m)
-    (Some (record { message = m; node = node_of v; event = length vs; receipt = None }))
-    (cond (is (receives v) m) (received (length vs) (posted vs m)) (posted vs m))
+    (Some (record { message = m; node = node_of v; event = n; receipt = None }))
+    (cond (is (receives v) m) (received n (held m)) (held m))
+
+abbrev pub posted : List Event → ℕ → Option Sent
+posted [] m = None
+posted (v ∷ vs) m = noted v (length vs) (posted vs) m
 
 abbrev pub is_received : Option Sent → Bool
 is_received None = false

@@ -76,16 +76,14 @@ impl<F: Clock, R: Clock> Correlator<F, R> {
         ensures grown { history self.new ≡ with_event (history self.old) event }
         ensures place { result ≡ next_place (history self.old) (node_of event) }
     {
-        let node = event.node();
+        let entry = NewEntry::of(event, follows);
         let number = self.trace.count();
-        let entry = NewEntry {
-            node,
-            partner: event.partner(),
-            prior: follows,
-        };
         let _ = self.forward.take(entry);
-        let index = self.forward.count(number, node).unwrap_or(0);
+        let index = self.forward.count(number, entry.node).unwrap_or(0);
         self.trace.push(event);
-        Place { node, index }
+        Place {
+            node: entry.node,
+            index,
+        }
     }
 }

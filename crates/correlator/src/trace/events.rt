@@ -2,7 +2,8 @@
 
 ghost use Rattle.std.specs.Prelude.{◌≡◌, ℕ, ◌+◌, ◌<◌, ◌≤◌, [], length, Some, None};
 ghost use Rattle.causality.specs.Traces.{sends};
-ghost use Rattle.correlator.specs.Trace.{noted, told, traced};
+ghost use Rattle.correlator.specs.Trace.{told, traced};
+ghost use Rattle.feeding.specs.Posted.{noted};
 ghost use Rattle.history.specs.Calls.{Call, after, with_event};
 ghost use Rattle.history.specs.History.{idle};
 ghost use Rattle.records.specs.Messages.{sent_of};
