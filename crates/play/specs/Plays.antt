@@ -14,7 +14,7 @@
 --   refusal_bytes e         the line that tells of it
 --   Correlated ..           what `correlate` writes
 use Rattle.std.specs.Prelude.{◌≡◌, ℕ, ◌+◌, ◌*◌, ◌<◌, ◌≤◌, List, [], ◌∷◌, ◌++◌, length, map, Some, None, Ok, Err, Option, Result}
-use Rattle.answer_lines.specs.Output.{Wrote, Writes, order_line, refused_line, refused_text}
+use Rattle.answer_lines.specs.Output.{line_room, Wrote, Writes, order_line, refused_line, refused_text}
 use Rattle.answer_lines.specs.declared.Output.{Output}
 use Rattle.causality.specs.declared.CausalOrder.{CausalOrder}
 use Rattle.history.specs.declared.refusal.Refusal.{Refusal}
@@ -49,10 +49,6 @@ pub record LinePlayed (h : History) (k : ℕ) (l : Line) (old new : Output) (h' 
   pub after : h' ≡ next_history h (call_of l)
 
 -- ---- texts
-
--- the bytes of output that are asked for, for each line
-abbrev pub line_room : ℕ
-line_room = 32
 
 -- from the history h and the output `old` to the history h' and the output `new`, of which the first `to` bytes were written;
 -- `lawful.all.lines` are the lines that spell the text, `count` of them

@@ -1,19 +1,17 @@
 //! The play of a whole text.
 
 ghost use Rattle.std.specs.Prelude.{◌≡◌, ◌+◌, ◌≤◌, length, IfOk};
-ghost use Rattle.answer_lines.specs.Output.{Wrote};
+ghost use Rattle.answer_lines.specs.Output.{HasRoom, Wrote, line_room};
 ghost use Rattle.correlator.specs.Told.{history};
 ghost use Rattle.play.specs.Plays.{Correlated, LinePlayed, Played, number_of, refusal_bytes, unplayed};
 
 use crate::reports::answer;
+pub use answer_lines::LINE_ROOM;
 use answer_lines::Output;
 use clock::Clock;
 use correlator::Correlator;
 use job_text::{Fault, MAX_LINES, Reader, check_text};
 use line_forms::{Line, read_line};
-
-/// The bytes of output that play asks for, for each line of the text.
-pub const LINE_ROOM: usize = 32;
 
 /// Why a text is not played.
 #[derive(Clone, Copy, PartialEq, Eq, Debug)]
@@ -84,8 +82,8 @@ fn play_line<F: Clock, R: Clock>(
     k: u16,
     output: &mut Output<'_>,
 )
-    requires { output.old.at + 32 ≤ length output.old.out.now }
-    ensures room { output.new.at ≤ output.old.at + 32 }
+    requires { HasRoom output.old }
+    ensures room { output.new.at ≤ output.old.at + line_room }
     ensures played { LinePlayed (history c.old) k line output.old output.new (history c.new) }
 {
     match answer(c, line) {
@@ -113,7 +111,7 @@ pub fn correlate<F: Clock + Drop, R: Clock + Drop>(text: &[u8], out: &mut [u8; M
 
 // Writes the line of the refusal of a text; answers the place behind it.
 fn put_refusal(out: &mut [u8], refusal: PlayRefusal) -> usize
-    requires { 32 ≤ length out.old }
+    requires { line_room ≤ length out.old }
     ensures { Wrote out.old 0 (refusal_bytes refusal) out.new result }
 {
     let number = u8::from(refusal);
