@@ -1,7 +1,9 @@
 -- Names at the front of a list: there is at most one, and it is the letters in front.
-use Rattle.std.proofs.Common.{◌≡◌, ℕ, ◌<◌, ◌≤◌, true, ◌&&◌, leb, List, [], ◌∷◌, ◌++◌, length, get_or, sym, refl, ◌∙◌, subst, arith}
+use Rattle.std.proofs.Common.{◌≡◌, ℕ, ◌<◌, ◌≤◌, Bool, true, ◌&&◌, leb, Option, MatchOption, inl, inr, List, [], ◌∷◌, ◌++◌, length, get_or, sym, refl, ◌∙◌, subst, arith}
+use Rattle.std.specs.Bool.{then_some}
+use Rattle.std.specs.Borrow.{Bor}
 use Rattle.std.specs.List.{AllByRecursion}
-use Rattle.std.proofs.lemmas.Bool.{and_parts, leb-true, le-leb}
+use Rattle.std.proofs.lemmas.Bool.{and_parts, both_ways, cases_Bool, leb-true, le-leb}
 use Rattle.std.proofs.lemmas.Bool.Decides.{nat_tests}
 use Rattle.history.specs.History.{all_letters, is_letter}
 use Rattle.line_parts.specs.Parts.{Letter, Name, NameAt, Run}
@@ -49,3 +51,11 @@ name_long {name = name} {rest = rest} h n t k =
 
 pub name_here : {s name rest : List ℕ} → Run Letter s name rest → 1 ≤ length name → length name ≤ 8 → NameAt s name rest
 name_here {name = name} h some short = record { sound = a_name name some short h.all; spelt = sym h.whole; stops = h.stops }
+
+-- what is read, by whether the letters in front are few enough
+pub named : {s : List ℕ} (name rest : Bor (List ℕ)) {b : Bool} {r : Option (Bor (List ℕ) × Bor (List ℕ))} → r ≡ then_some b (name, rest) → (b ≡ true → (1 ≤ length name.now) × (length name.now ≤ 8)) → (1 ≤ length name.now → length name.now ≤ 8 → b ≡ true) → Run Letter s name.now rest.now →
+    MatchOption r ((n t : List ℕ) → NameAt s n t → ⊥) (λ x. NameAt s x.0.now x.1.now)
+named name rest {b} e fits few h = elim (cases_Bool b) [
+  | inl is ↦ rw (e, is) (name_here h (fits is).0 (fits is).1)
+  | inr is ↦ rw (e, is) (λ n t k. let long = name_long h n t k in both_ways b is (few long.0 long.1))
+]

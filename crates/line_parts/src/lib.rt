@@ -42,11 +42,7 @@ pub fn read_name(s: &[u8]) -> Option<(&[u8], &[u8])>
     ensures { MatchOption result ((name rest : List ℕ) → NameAt s.now name rest → ⊥) (λ x. NameAt s.now x.0.now x.1.now) }
 {
     let (name, rest) = split_while(s, is_letter);
-    if name.is_empty() || name.len() > MAX_NAME {
-        None
-    } else {
-        Some((name, rest))
-    }
+    (1..=MAX_NAME).contains(&name.len()).then_some((name, rest))
 }
 
 /// The bytes in front that pass the test, and what follows them.
