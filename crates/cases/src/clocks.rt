@@ -1,5 +1,6 @@
 //! Each make of clock on the worked trace, at its limits, and on a ladder of messages.
 
+use causality::Event;
 use clock::{Clock, NewEntry};
 use link_clock::LinkClock;
 use row_clock::RowClock;
@@ -8,48 +9,18 @@ use std::process::Abort;
 // A count: the entry, the node and the number; or the k-th entry of a node.
 type Fact = (u16, u16, Option<u16>);
 
-// Node 1: local, send, local. Node 2: send, meet. Node 3: two receives, meet, local.
-const WORKED: [NewEntry; 8] = [
-    NewEntry {
-        node: 1,
-        partner: None,
-        prior: None,
-    },
-    NewEntry {
-        node: 1,
-        partner: None,
-        prior: None,
-    },
-    NewEntry {
-        node: 2,
-        partner: None,
-        prior: None,
-    },
-    NewEntry {
-        node: 3,
-        partner: None,
-        prior: Some(1),
-    },
-    NewEntry {
-        node: 3,
-        partner: None,
-        prior: Some(2),
-    },
-    NewEntry {
-        node: 2,
-        partner: Some(3),
-        prior: None,
-    },
-    NewEntry {
-        node: 1,
-        partner: None,
-        prior: None,
-    },
-    NewEntry {
-        node: 3,
-        partner: None,
-        prior: None,
-    },
+// An event, and the entry that it follows by a message.
+type Step = (Event, Option<u16>);
+
+const WORKED: [Step; 8] = [
+    (Event::Local(1), None),
+    (Event::Send(1, 7), None),
+    (Event::Send(2, 8), None),
+    (Event::Receive(3, 7), Some(1)),
+    (Event::Receive(3, 8), Some(2)),
+    (Event::Meet(2, 3), None),
+    (Event::Local(1), None),
+    (Event::Local(3), None),
 ];
 
 const COUNTS: [Fact; 9] = [
@@ -67,47 +38,15 @@ const COUNTS: [Fact; 9] = [
 const PLACES: [Fact; 4] = [(2, 2, Some(5)), (3, 3, Some(5)), (3, 5, None), (1, 0, None)];
 
 // The same trace from last to first, each send with its receive.
-const WORKED_BACK: [NewEntry; 8] = [
-    NewEntry {
-        node: 3,
-        partner: None,
-        prior: None,
-    },
-    NewEntry {
-        node: 1,
-        partner: None,
-        prior: None,
-    },
-    NewEntry {
-        node: 2,
-        partner: Some(3),
-        prior: None,
-    },
-    NewEntry {
-        node: 3,
-        partner: None,
-        prior: None,
-    },
-    NewEntry {
-        node: 3,
-        partner: None,
-        prior: None,
-    },
-    NewEntry {
-        node: 2,
-        partner: None,
-        prior: Some(3),
-    },
-    NewEntry {
-        node: 1,
-        partner: None,
-        prior: Some(4),
-    },
-    NewEntry {
-        node: 1,
-        partner: None,
-        prior: None,
-    },
+const WORKED_BACK: [Step; 8] = [
+    (Event::Local(3), None),
+    (Event::Local(1), None),
+    (Event::Meet(2, 3), None),
+    (Event::Receive(3, 8), None),
+    (Event::Receive(3, 7), None),
+    (Event::Send(2, 8), Some(3)),
+    (Event::Send(1, 7), Some(4)),
+    (Event::Local(1), None),
 ];
 
 const COUNTS_BACK: [Fact; 6] = [
@@ -119,8 +58,8 @@ const COUNTS_BACK: [Fact; 6] = [
     (6, 3, Some(4)),
 ];
 
-fn takes<C: Clock>(c: &mut C, entries: &[NewEntry]) -> bool {
-    entries.iter().all(|entry| c.take(*entry).is_some())
+fn takes<C: Clock>(c: &mut C, steps: &[Step]) -> bool {
+    steps.iter().all(|(event, prior)| c.take(NewEntry::of(*event, *prior)).is_some())
 }
 
 fn counts<C: Clock>(c: &C, facts: &[Fact]) -> bool {
@@ -145,11 +84,7 @@ fn worked<C: Clock + Drop>(rt: &impl Abort) {
 
 // An entry of one node that follows another, if it is given.
 fn entry(node: u16, prior: Option<u16>) -> NewEntry {
-    NewEntry {
-        node,
-        partner: None,
-        prior,
-    }
+    NewEntry::of(Event::Local(node), prior)
 }
 
 fn fill<C: Clock>(c: &mut C) -> bool {
@@ -158,11 +93,7 @@ fn fill<C: Clock>(c: &mut C) -> bool {
 
 // A meet of node 1 and another.
 fn meet(partner: u16) -> NewEntry {
-    NewEntry {
-        node: 1,
-        partner: Some(partner),
-        prior: None,
-    }
+    NewEntry::of(Event::Meet(1, partner), None)
 }
 
 // 16 nodes and 512 entries pass, 17 and 513 do not, and a refusal alters nothing.
@@ -170,7 +101,7 @@ fn limits<C: Clock + Drop>(rt: &impl Abort) {
     let mut c = C::new();
     assert!(rt; !c.begin(0) && !c.begin(17));
     assert!(rt; c.begin(16) && fill(&mut c));
-    assert!(rt; !takes(&mut c, &[entry(1, None)]) && !c.begin(17));
+    assert!(rt; c.take(entry(1, None)).is_none() && !c.begin(17));
     assert!(rt;
         counts(
             &c,
