@@ -1,5 +1,5 @@
 -- The entries of a node, from the oldest up, are its timeline turned round.
-use Rattle.std.proofs.Common.{◌≡◌, ℕ, zero, suc, ◌+◌, ◌-◌, ◌<◌, ◌≤◌, Bool, cond, List, [], ◌∷◌, length, get_or, drop, map, slice_get, Some, None, refl, ap, ◌∙◌, sym, inl, inr, add-one, arith, drop-cons}
+use Rattle.std.proofs.Common.{◌≡◌, ℕ, zero, suc, ◌+◌, ◌<◌, ◌≤◌, Bool, List, [], ◌∷◌, length, get_or, drop, map, slice_get, Some, None, refl, ap, ◌∙◌, sym, inl, inr, add-one, arith, drop-cons}
 use mathlib.Core.List.{reverse_aux}
 use Rattle.std.specs.List.{filter, enumerate_from}
 use Rattle.std.specs.Option.{option_map}

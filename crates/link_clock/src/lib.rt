@@ -11,9 +11,7 @@ ghost use Rattle.link_clock.specs.Links.{no_link, before, earlier, all_takes, li
 ghost use Rattle.clock.proofs.Takes.{meanings_lawful};
 
 use arrayvec::ArrayVec;
-use clock::{
-    Clock, ENTRIES, MAX_NODES, NODES, NewEntry, Predecessors, admits, is_node, knows,
-};
+use clock::{Clock, ENTRIES, MAX_NODES, NODES, NewEntry, Predecessors, admits, is_node, knows};
 
 /// An entry as it was taken, and what came just before it.
 #[derive(Clone, Copy, Default)]

@@ -12,9 +12,7 @@ ghost use Rattle.row_clock.specs.Laws.{rows_lawful};
 mod parts;
 
 use arrayvec::ArrayVec;
-use clock::{
-    Clock, ENTRIES, MAX_NODES, NODES, NewEntry, Predecessors, admits, is_node, knows,
-};
+use clock::{Clock, ENTRIES, MAX_NODES, NODES, NewEntry, Predecessors, admits, is_node, knows};
 use parts::{Column, Row};
 use std::array;
 

@@ -1,6 +1,6 @@
 -- What the clocks that took a trace tell of its columns and timestamps.
-use Rattle.std.proofs.Common.{◌≡◌, ℕ, zero, suc, ◌-◌, ◌<◌, ◌≤◌, Bool, true, ltb, List, [], ◌∷◌, reverse, length, get_or, take, Some, sym, refl, ap, ◌∙◌, subst, ap₂, inl, inr, arith}
-use Rattle.std.proofs.lemmas.List.{length-reverse, length-take-le, get_or-take, nil_from_length}
+use Rattle.std.proofs.Common.{◌≡◌, ℕ, zero, suc, ◌-◌, ◌<◌, ◌≤◌, Bool, true, ltb, List, [], ◌∷◌, reverse, length, get_or, Some, sym, refl, ap, ◌∙◌, subst, ap₂, inl, inr, arith}
+use Rattle.std.proofs.lemmas.List.{length-reverse, nil_from_length}
 use Rattle.std.proofs.lemmas.Bool.{cases_Bool, cond-true, and_from, lt-ltb, eq-eqb}
 use Rattle.causality.specs.declared.Event.{Event}
 use Rattle.causality.specs.Limits.{is_node}

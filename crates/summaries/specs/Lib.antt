@@ -1,4 +1,3 @@
 pub mod Places
-pub mod Members
 pub mod Rows
 pub mod Summed

@@ -3,7 +3,7 @@
 --   Traced vs n μ ρ es         the forward clock took the trace vs of n nodes, the reverse clock took it from last to first, and
 --                              the slice es has its events, oldest first
 --   Summed μ ρ es members o    in any trace that the clocks took, of which the members are events, o is the record of the members
-use Rattle.std.specs.Prelude.{◌≡◌, ℕ, ◌<◌, ◌≤◌, List, ◌∷◌, reverse, length, take}
+use Rattle.std.specs.Prelude.{◌≡◌, ℕ, ◌<◌, ◌≤◌, List, ◌∷◌, reverse, length}
 use Rattle.std.specs.List.{AllByRecursion}
 use Rattle.causality.specs.declared.Event.{Event}
 use Rattle.causality.specs.Traces.{forward, backward}

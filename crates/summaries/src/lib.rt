@@ -6,8 +6,7 @@ mod rows;
 mod summary;
 mod trace;
 
-pub use members::Members;
-pub use members::methods::members_at;
+pub use members::{Members, members_at};
 pub use rows::write_row;
 pub use summary::summarize;
 pub use trace::Trace;

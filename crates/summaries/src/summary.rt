@@ -1,6 +1,5 @@
 //! The record of an operation.
 
-ghost use Rattle.summaries.specs.Members.{listed};
 ghost use Rattle.summaries.specs.Summed.{Summed};
 ghost use Rattle.std.specs.Prelude.{◌≡◌};
 
@@ -11,7 +10,7 @@ use causality::from_last;
 use clock::Clock;
 use counting::row_of;
 use gathering::{Earliest, Greatest, Least};
-use records::{Cuts, Operation};
+use records::{Cuts, MAX_MEMBERS, Operation};
 
 /// The record of an operation with these members, in a trace that both clocks took.
 pub fn summarize<F: Clock, R: Clock>(
@@ -20,9 +19,11 @@ pub fn summarize<F: Clock, R: Clock>(
     members: &Members,
 ) -> Operation
     ensures name { result.name ≡ name }
-    ensures summed { Summed (F.Clock.means trace.now.forward.now) (R.Clock.means trace.now.reverse.now) trace.now.events.now (listed members.now) result }
+    ensures summed { Summed (F.Clock.means trace.now.forward.now) (R.Clock.means trace.now.reverse.now) trace.now.events.now members.now.items result }
 {
-    let held = &members.events[..members.len as usize];
+    let held = members.as_slice();
+    let mut kept = [0; MAX_MEMBERS];
+    kept[..held.len()].copy_from_slice(held);
     let (first, last) = bounds::<Earliest, Greatest, _>(
         held,
         |e| own_row_of(trace.forward, trace.events, e),
@@ -35,8 +36,8 @@ pub fn summarize<F: Clock, R: Clock>(
     let ends = trace.lengths();
     Operation {
         name,
-        len: members.len,
-        members: members.events,
+        len: held.len() as u16,
+        members: kept,
         first,
         last,
         cuts: Cuts {

@@ -1,5 +1,5 @@
 -- The k-th entry of a node is what a search finds.
-use Rattle.std.proofs.Common.{length, sym, ◌∙◌}
+use Rattle.std.proofs.Common.{sym, ◌∙◌}
 use Rattle.std.proofs.lemmas.Bool.{cond-true}
 use Rattle.clock.proofs.Takes.{meanings_answer}
 use Rattle.link_clock.specs.Links.{all_takes}

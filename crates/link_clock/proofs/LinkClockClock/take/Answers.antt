@@ -1,5 +1,5 @@
 -- A take refuses, or adds one link.
-use Rattle.std.proofs.Common.{◌≡◌, ℕ, ◌+◌, true, List, [], ◌∷◌, ◌++◌, length, Some, Option, sym, refl, ap, ◌∙◌, arith, length-append}
+use Rattle.std.proofs.Common.{◌≡◌, ℕ, true, List, [], ◌∷◌, ◌++◌, length, Some, Option, sym, ap, ◌∙◌, arith}
 use Rattle.clock.specs.Meaning.{admits, taken, number}
 use Rattle.clock.specs.Takes.{meaning}
 use Rattle.clock.proofs.Arrays.{Admitted, admitted}

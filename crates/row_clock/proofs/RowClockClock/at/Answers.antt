@@ -1,5 +1,5 @@
 -- The k-th entry of a node is the k-th of its column.
-use Rattle.std.proofs.Common.{length, ◌≡◌, ℕ, ◌-◌, ◌≤◌, List, slice_get, sym, ap, ap₂, ◌∙◌, arith, rules}
+use Rattle.std.proofs.Common.{◌≡◌, ℕ, ◌-◌, ◌≤◌, List, slice_get, sym, ap, ap₂, ◌∙◌, arith, rules}
 use Rattle.std.proofs.lemmas.List.{get_or_default}
 use Rattle.std.proofs.lemmas.Bool.{cond-true}
 use Rattle.causality.specs.Newest.{kth}

@@ -1,5 +1,5 @@
 -- A count is a cell of a row.
-use Rattle.std.proofs.Common.{◌≡◌, length, ap, ◌∙◌, rules}
+use Rattle.std.proofs.Common.{◌≡◌, length, ◌∙◌, rules}
 use Rattle.std.specs.Option.{IfSome}
 use Rattle.clock.proofs.Arrays.{length-listed}
 use Rattle.clock.proofs.Takes.{count_is}

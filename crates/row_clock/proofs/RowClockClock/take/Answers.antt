@@ -1,5 +1,5 @@
 -- A take refuses, or adds one row.
-use Rattle.std.proofs.Common.{◌≡◌, ℕ, ◌+◌, ◌<◌, true, List, [], ◌∷◌, ◌++◌, length, get_or, Some, Option, sym, refl, ap, ◌∙◌, arith, length-append}
+use Rattle.std.proofs.Common.{◌≡◌, ℕ, ◌+◌, ◌<◌, true, List, [], ◌∷◌, ◌++◌, length, get_or, Some, Option, sym, refl, ap, ◌∙◌, arith}
 use Rattle.causality.specs.Limits.{max_nodes}
 use Rattle.clock.specs.Meaning.{Held, Meaning, admits, taken, number}
 use Rattle.clock.proofs.Arrays.{length-listed, Admitted, admitted}

@@ -1,4 +1,4 @@
-use Rattle.std.proofs.Common.{◌≡◌, ℕ, min, max, List, length, map, take, ap, ◌∙◌, arith, rules}
+use Rattle.std.proofs.Common.{◌≡◌, ℕ, [], ◌∷◌, ◌++◌, refl, min, max, List, length, map, take, ap, ◌∙◌, arith, rules}
 use Rattle.gathering.specs.declared.Row.{Row}
 use Rattle.gathering.specs.Gathering.{earliest, joined_all}
 use Rattle.gathering.specs.Absent.{earliest_associative}
@@ -20,13 +20,21 @@ most a b d = omega arith
 bound : (f : ℕ → ℕ → ℕ) (law : (x y z : ℕ) → f (f x y) z ≡ f x (f y z)) (of : ℕ → Row) (ms : List ℕ) (rows : List Row) (r : Row) → rows ≡ map of ms → r ≡ or_zeros (joined_all (op f law) rows) → r ≡ or_zeros (joined_all (op f law) (map of ms))
 bound f law of ms rows r is h = h ∙ ap (λ (rs : List Row). or_zeros (joined_all (op f law) rs)) is
 
+take_front : (xs ys : List ℕ) → take (length xs) (xs ++ ys) ≡ xs
+take_front [] ys = refl
+take_front (x ∷ xs) ys = ap (λ (zs : List ℕ). x ∷ zs) (take_front xs ys)
+
+-- what is copied to the front of an array
+front : (copied rest members : List ℕ) → copied ≡ members → take (length members) (copied ++ rest) ≡ members
+front copied rest members e = rw e (take_front members rest)
+
 pub returns-clause-summed : goal.returns-clause-summed
 returns-clause-summed g c vs n x xs t members held =
-    let m = c.args.members.now in
     let es = c.args.trace.now.events.now in
     let μ = g.F.Clock.means c.args.trace.now.forward.now in
     let ρ = g.R.Clock.means c.args.trace.now.reverse.now in
-    let ms = take m.len m.events in
+    let ms = c.as_slice-held.result.now in
+    let held_are : ms ≡ x ∷ xs = c.as_slice-held.ensures.value ∙ members in
     let (own, own_each, first, last) = c.bounds.ensures in
     let (whole, whole_each, joint_past, whole_past) = c.bounds-2.ensures in
     let (ahead, ahead_each, near, far) = c.bounds-3.ensures in
@@ -34,12 +42,12 @@ returns-clause-summed g c vs n x xs t members held =
     let whole_is = made_map _ (count_row μ) ms whole whole_each (λ x y h. search rules) in
     let ahead_is = made_map _ (row_from_last ρ (length es)) ms ahead ahead_each (λ x y h. search rules) in
     record {
-      members = members;
+      members = front c.copy_from_slice.new.self _ ms c.copy_from_slice.ensures.after ∙ held_are;
       held = held;
-      firsts = λ i node. at_own vs n μ ρ es t x xs held i node earliest earliest_associative ms members c.bounds.result.0 min present-earliest (bound earliest earliest_associative (own_row_of μ es) ms own _ own_is first);
-      lasts = λ i node. at_own vs n μ ρ es t x xs held i node max most ms members c.bounds.result.1 max present-greatest (bound max most (own_row_of μ es) ms own _ own_is last);
-      joint_pasts = λ i node. at-past vs n μ ρ es t x xs held i node min least ms members c.bounds-2.result.0 (bound min least (count_row μ) ms whole _ whole_is joint_past);
-      whole_pasts = λ i node. at-past vs n μ ρ es t x xs held i node max most ms members c.bounds-2.result.1 (bound max most (count_row μ) ms whole _ whole_is whole_past);
-      first_reaches = λ i node. at_end vs n μ ρ es t x xs held i node c.lengths-ends.result c.bounds-3.result.1 c.from_end.result _ c.lengths-ends.ensures (at_future vs n μ ρ es t x xs held i node max most ms members c.bounds-3.result.1 (bound max most (row_from_last ρ (length es)) ms ahead _ ahead_is far)) c.from_end.ensures;
-      joint_reaches = λ i node. at_end vs n μ ρ es t x xs held i node c.lengths-ends.result c.bounds-3.result.0 c.from_end-2.result _ c.lengths-ends.ensures (at_future vs n μ ρ es t x xs held i node min least ms members c.bounds-3.result.0 (bound min least (row_from_last ρ (length es)) ms ahead _ ahead_is near)) c.from_end-2.ensures;
+      firsts = λ i node. at_own vs n μ ρ es t x xs held i node earliest earliest_associative ms held_are c.bounds.result.0 min present-earliest (bound earliest earliest_associative (own_row_of μ es) ms own _ own_is first);
+      lasts = λ i node. at_own vs n μ ρ es t x xs held i node max most ms held_are c.bounds.result.1 max present-greatest (bound max most (own_row_of μ es) ms own _ own_is last);
+      joint_pasts = λ i node. at-past vs n μ ρ es t x xs held i node min least ms held_are c.bounds-2.result.0 (bound min least (count_row μ) ms whole _ whole_is joint_past);
+      whole_pasts = λ i node. at-past vs n μ ρ es t x xs held i node max most ms held_are c.bounds-2.result.1 (bound max most (count_row μ) ms whole _ whole_is whole_past);
+      first_reaches = λ i node. at_end vs n μ ρ es t x xs held i node c.lengths-ends.result c.bounds-3.result.1 c.from_end.result _ c.lengths-ends.ensures (at_future vs n μ ρ es t x xs held i node max most ms held_are c.bounds-3.result.1 (bound max most (row_from_last ρ (length es)) ms ahead _ ahead_is far)) c.from_end.ensures;
+      joint_reaches = λ i node. at_end vs n μ ρ es t x xs held i node c.lengths-ends.result c.bounds-3.result.0 c.from_end-2.result _ c.lengths-ends.ensures (at_future vs n μ ρ es t x xs held i node min least ms held_are c.bounds-3.result.0 (bound min least (row_from_last ρ (length es)) ms ahead _ ahead_is near)) c.from_end-2.ensures;
     }
