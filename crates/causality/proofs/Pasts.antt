@@ -71,7 +71,7 @@ latest_top (t ∷ ts) i p m =
       | inr s ↦ rw s (latest_top ts i p (rw s at m))
     ]
 
-is_some : (o : Option ℕ) (i : ℕ) → is o i ≡ true → o ≡ Some i
+pub is_some : (o : Option ℕ) (i : ℕ) → is o i ≡ true → o ≡ Some i
 is_some None i h = absurd (false≢true h)
 is_some (Some j) i h = ap Some (eqb-true j i h)
 

@@ -2,18 +2,16 @@
 use Rattle.std.proofs.Common.{◌≡◌, ℕ, ◌-◌, ◌<◌, ◌≤◌, Bool, true, false, cond, eqb, ltb, leb, List, [], ◌++◌, reverse, length, drop, Some, None, Decides, Option, sym, refl, ap, ◌∙◌, subst, ap₂, inl, inr, arith}
 use Rattle.std.specs.Option.{unwrap_or}
 use Rattle.std.proofs.lemmas.List.{length-reverse}
-use Rattle.std.proofs.lemmas.Bool.{cases_Bool, cond-true, cond-false, ne_eqb, and_from, and_cases, or_cases, not-false, lt-ltb, leb-true, le-leb, eqb-true, eqb-false, eq-eqb, both_ways}
+use Rattle.std.proofs.lemmas.Bool.{cond-true, cond-false, ne_eqb, and_from, and_cases, or_cases, not-false, lt-ltb, leb-true, le-leb, eqb-true, eqb-false, eq-eqb, both_ways}
 use Rattle.causality.specs.declared.CausalOrder.{CausalOrder}
 use Rattle.causality.specs.declared.Event.{Event}
 use Rattle.causality.specs.declared.Place.{Place}
 use Rattle.causality.specs.Limits.{is_node}
 use Rattle.causality.specs.Newest.{kth}
-use Rattle.causality.specs.Traces.{from, into, events_at, Before, Orderly, forward, backward, mirror}
+use Rattle.causality.specs.Traces.{from, into, Before, Orderly, forward, backward, mirror}
 use Rattle.causality.specs.Relations.{To, fore}
-use Rattle.causality.proofs.Newest.{nothing}
 use Rattle.causality.proofs.Counts.{stamps_tell}
 use Rattle.causality.proofs.Traces.{length-entries, timeline-events, past_is_before, before_rises, accepted_is_orderly}
-use Rattle.causality.proofs.Columns.{place-low}
 use Rattle.clock.specs.Meaning.{Meaning, counted, found}
 use Rattle.clock.specs.Takes.{meaning}
 use Rattle.clock.proofs.Takes.{meanings_answer}
@@ -23,6 +21,7 @@ use Rattle.history.specs.History.{History, is_idle, is_open, is_closed, is_none,
 use Rattle.history.specs.Calls.{Call, refusals, refusal}
 use Rattle.history.specs.Answers.{Compared, with_row, stamp_number, stamp_if, stamped}
 use Rattle.history.specs.Lawful.{Lawful}
+use Rattle.history.proofs.Named.{named-place, named-low}
 use Rattle.history.proofs.Passed.{passed}
 use Rattle.counting.specs.Counting.{or_zero}
 use Rattle.counting.proofs.Rows.{row_like}
@@ -40,12 +39,6 @@ module _ (h : History) where
       (meanings_answer h.nodes (forward h.events) 0 p.node p.index).1
       ∙ ap (λ (c : List ℕ). cond (is_node h.nodes p.node) (kth c p.index) None) (timeline-events from h.events p.node)
 
-  named-place : (p : Place) (x : ℕ) → named h p ≡ Some x → (is_node h.nodes p.node ≡ true) × (kth (events_at h.events p.node) p.index ≡ Some x)
-  named-place p x e = elim (cases_Bool (is_node h.nodes p.node)) [ inl s ↦ (s, rw s at e) | inr s ↦ absurd (nothing (rw s at e)) ]
-
-  pub named-low : (p : Place) (x : ℕ) → named h p ≡ Some x → x < length h.events
-  named-low p x e = place-low h.events p.node p.index x (named-place p x e).1
-
   -- a count is a timestamp
   pub counted-fore : (e i : ℕ) → e < length h.events → is_node h.nodes i ≡ true → or_zero (counted (fed h) e i) ≡ fore h.events e i
   counted-fore e i low node =
@@ -55,10 +48,10 @@ module _ (h : History) where
   pub counts_decide : Lawful h → (p : Place) (x y : ℕ) → named h p ≡ Some x → y < length h.events → Decides (leb p.index (or_zero (counted (fed h) y p.node))) (To h.events x y)
   counts_decide lawful p x y e low =
       let vs = h.events in
-      let (node, place) = named-place p x e in
+      let (node, place) = named-place h p x e in
       let count = counted-fore y p.node low node in
       let tell = stamps_tell (forward vs) y p.node p.index x (rw (timeline-events from vs p.node) place) in
-      let to = past_is_before vs (accepted_is_orderly vs lawful.accepted) x y (named-low p x e) low in (
+      let to = past_is_before vs (accepted_is_orderly vs lawful.accepted) x y (named-low h p x e) low in (
         (λ c. to.0 (tell.1 (omega (arith, count, leb-true _ _ c)))),
         λ t. le-leb _ _ (omega (arith, count, tell.0 (to.1 t))),
       )

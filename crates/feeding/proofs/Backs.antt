@@ -9,6 +9,7 @@ use Rattle.causality.specs.declared.Event.{Event}
 use Rattle.causality.specs.Newest.{numbers, has, entry, tally}
 use Rattle.causality.specs.Entries.{is}
 use Rattle.causality.specs.Traces.{node_of, partner_of, sends, receives, both, into, entries, Accepted}
+use Rattle.causality.proofs.Pasts.{is_some}
 use Rattle.causality.proofs.Newest.{entry_cases, numbers_turned, reverse_split, length-picked, tally-reverse}
 use Rattle.clock.specs.Meaning.{Meaning, taken}
 use Rattle.clock.specs.Takes.{meaning}
@@ -16,7 +17,7 @@ use Rattle.history.specs.Lawful.{Fits, Once}
 use Rattle.records.specs.declared.messages.Sent.{Sent}
 use Rattle.feeding.specs.Posted.{posted, receipt_of, from_last, receipt_if, follower, fed_through}
 use Rattle.feeding.proofs.Taking.{taken-entry, numbers_never}
-use Rattle.feeding.proofs.Posts.{is_some, unreceived, numbers_unsent, sends_only, posted_known}
+use Rattle.feeding.proofs.Posts.{unreceived, numbers_unsent, sends_only, posted_known}
 
 -- ---- the one receive of a message
 

@@ -6,6 +6,7 @@ use Rattle.causality.specs.declared.Event.{Event}
 use Rattle.causality.specs.Newest.{numbers, has}
 use Rattle.causality.specs.Entries.{is}
 use Rattle.causality.specs.Traces.{node_of, sends, receives, was_sent, Accepted}
+use Rattle.causality.proofs.Pasts.{is_some}
 use Rattle.history.specs.History.{is_none, was_received, was_sent_by}
 use Rattle.records.specs.declared.messages.Sent.{Sent}
 use Rattle.records.specs.Messages.{received}
@@ -41,10 +42,6 @@ has_stronger p q h [] e = refl
 has_stronger p q h (v ∷ vs) e =
     let (a, b) = or_parts (p v) (has p vs) e in
     or_from (q v) (has q vs) (elim (cases_Bool (q v)) [ inl t ↦ absurd (both_ways (p v) a (h v t)) | inr t ↦ t ]) (has_stronger p q h vs b)
-
-pub is_some : (o : Option ℕ) (m : ℕ) → is o m ≡ true → o ≡ Some m
-is_some None m e = absurd (false≢true e)
-is_some (Some k) m e = ap Some (eqb-true k m e)
 
 pub sends_only : (v : Event) (m : ℕ) → is (sends v) m ≡ true → is (receives v) m ≡ false
 sends_only (Event.Local i) m e = refl
