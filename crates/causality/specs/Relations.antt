@@ -27,7 +27,7 @@ abbrev pub joined : (ℕ → ℕ → ℕ) → (ℕ → ℕ) → ℕ → List ℕ
 joined f of x [] = of x
 joined f of x (u ∷ us) = f (of x) (joined f of u us)
 
-abbrev pub merged : (ℕ → ℕ → ℕ) → Option ℕ → Option ℕ → Option ℕ
+abbrev pub merged : {X : Type 0} → (X → X → X) → Option X → Option X → Option X
 merged f None o = o
 merged f (Some k) None = Some k
 merged f (Some k) (Some j) = Some (f k j)

@@ -10,7 +10,7 @@
 --   within vs e x  entry x lies in the past of entry e
 --   asked a b m    the entry that a take asks for: at node a, and at b if given, and following entry m if given
 --   taken, number  what a take leaves, and what it answers; begun and begins likewise
-use Rattle.std.specs.Prelude.{◌≡◌, ℕ, ◌<◌, ◌≤◌, Bool, true, false, cond, not, ◌&&◌, ◌||◌, List, [], ◌∷◌, ◌++◌, length, Some, None, Option, ◌==◌, nat_le, nat_lt}
+use Rattle.std.specs.Prelude.{◌≡◌, ℕ, ◌<◌, ◌≤◌, Bool, true, false, cond, not, ◌&&◌, ◌||◌, List, [], ◌∷◌, ◌++◌, length, Some, None, Option, ◌==◌, nat_lt}
 use Rattle.std.specs.Option.{option_to_list}
 use Rattle.causality.specs.Limits.{max_nodes, max_events, is_node}
 use Rattle.causality.specs.Newest.{numbers, kth, tally, Mem}
@@ -63,7 +63,7 @@ asked a b m = record { node = a; partner = b; priors = option_to_list m }
 -- ---- what a clock accepts
 
 abbrev pub begins : ℕ → Bool
-begins n = nat_le 1 n && nat_le n max_nodes
+begins = is_node max_nodes
 
 -- what is given, if anything, passes
 abbrev pub if_given : (ℕ → Bool) → Option ℕ → Bool

@@ -2,7 +2,8 @@
 use Rattle.std.proofs.Common.{◌≡◌, List, [], ◌∷◌, ◌++◌, Some, Option, MatchOption, fold, refl, sym, ap, ◌∙◌}
 use Rattle.std.proofs.lemmas.List.{append-nil}
 use Rattle.std.proofs.lemmas.List.Sums.{fold_push}
-use Rattle.gathering.specs.Gathering.{joined_all, joined_two}
+use Rattle.causality.specs.Relations.{merged}
+use Rattle.gathering.specs.Gathering.{joined_all}
 
 -- one more element is joined behind the others
 pub joined_push : {X : Type 0} (op : X → X → X) (xs : List X) (all : Option X) (x r : X) → all ≡ joined_all op xs →
@@ -21,7 +22,7 @@ module _ {X : Type 0} (op : X → X → X) (associative : (x y z : X) → op (op
   folded_parts x [] y ys = folded_out x y ys
   folded_parts x (w ∷ ws) y ys = folded_parts (op x w) ws y ys
 
-  pub joined_parts : (xs ys : List X) → joined_all op (xs ++ ys) ≡ joined_two op (joined_all op xs) (joined_all op ys)
+  pub joined_parts : (xs ys : List X) → joined_all op (xs ++ ys) ≡ merged op (joined_all op xs) (joined_all op ys)
   joined_parts [] ys = refl
   joined_parts (x ∷ xs) [] = ap (λ zs. Some (fold op x zs)) (append-nil xs)
   joined_parts (x ∷ xs) (y ∷ ys) = ap Some (folded_parts x xs y ys)

@@ -1,7 +1,6 @@
 -- What a joining makes of a list, and rows joined number by number.
 --
 --   joined_all op xs     all of xs joined, from the first on; none of an empty list
---   joined_two op o p    two such results joined
 --   zipped f xs ys       f of the numbers at each place
 --   earliest x y         the least of two numbers, where 0 stands for none
 --   Chooses before f     f keeps one of two numbers: the one that is first by `before`
@@ -11,11 +10,6 @@ use Rattle.std.specs.Prelude.{◌≡◌, ℕ, ◌<◌, min, cond, ◌⊎◌, ◌
 abbrev pub joined_all : {X : Type 0} → (X → X → X) → List X → Option X
 joined_all op [] = None
 joined_all op (x ∷ xs) = Some (fold op x xs)
-
-abbrev pub joined_two : {X : Type 0} → (X → X → X) → Option X → Option X → Option X
-joined_two op None p = p
-joined_two op (Some x) None = Some x
-joined_two op (Some x) (Some y) = Some (op x y)
 
 abbrev pub zipped : (ℕ → ℕ → ℕ) → List ℕ → List ℕ → List ℕ
 zipped f [] ys = []

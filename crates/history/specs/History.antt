@@ -98,6 +98,10 @@ abbrev pub all_named : History → List Place → List ℕ
 all_named h [] = []
 all_named h (p ∷ ps) = push_named (named h p) (all_named h ps)
 
+-- some of the places names nothing
+abbrev pub some_unfound : (Place → Option ℕ) → List Place → Bool
+some_unfound names [] = false
+some_unfound names (p ∷ ps) = is_none (names p) || some_unfound names ps
+
 abbrev pub some_unnamed : History → List Place → Bool
-some_unnamed h [] = false
-some_unnamed h (p ∷ ps) = is_none (named h p) || some_unnamed h ps
+some_unnamed h = some_unfound (named h)

@@ -2,7 +2,8 @@
 
 ghost use Rattle.std.specs.Prelude.{◌≡◌, ◌+◌, ◌<◌, ◌≤◌, true, false, [], length, Some, MatchOption};
 ghost use Rattle.arrayvec.specs.ArrayVec.{array_vec_len};
-ghost use Rattle.summaries.specs.Places.{found_at, gathered, some_unfound, with_member};
+ghost use Rattle.history.specs.History.{some_unfound};
+ghost use Rattle.summaries.specs.Places.{found_at, gathered, with_member};
 
 use arrayvec::ArrayVec;
 use causality::Place;

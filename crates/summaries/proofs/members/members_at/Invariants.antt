@@ -1,6 +1,7 @@
 use Rattle.std.proofs.Common.{◌≡◌, ◌≤◌, [], drop}
 use Rattle.summaries.specs.Places.{found_at}
-use Rattle.summaries.specs.Places.{gathered, some_unfound}
+use Rattle.history.specs.History.{some_unfound}
+use Rattle.summaries.specs.Places.{gathered}
 use Rattle.arrayvec.specs.ArrayVec.{array_vec_len}
 use Rattle.summaries.proofs.members.members_at.Given as goal
 
