@@ -82,10 +82,10 @@ module _ (s : Meaning) (len : ℕ) (size : length s.entries ≡ len) where
   pub take-accepted : (a : ℕ) (b m : Option ℕ) → true ≡ admits s.nodes len a b m → (with_entry s (asked a b m) ≡ taken s a b m) × (Some len ≡ number s a b m)
   take-accepted a b m h = rw (size, ← h) (refl, refl)
 
-  count_absent : (e i : ℕ) → false ≡ (ltb e len && is_node s.nodes i) → None ≡ counted s e i
+  pub count_absent : (e i : ℕ) → false ≡ (ltb e len && is_node s.nodes i) → None ≡ counted s e i
   count_absent e i h = rw (size, ← h)
 
-  count_present : (e i : ℕ) → true ≡ (ltb e len && is_node s.nodes i) → Some (tally (within s.entries e) (held_at s.entries i)) ≡ counted s e i
+  pub count_present : (e i : ℕ) → true ≡ (ltb e len && is_node s.nodes i) → Some (tally (within s.entries e) (held_at s.entries i)) ≡ counted s e i
   count_present e i h = rw (size, ← h)
 
   -- an answer that is there where the clock knows entry and node, and then the count

@@ -89,10 +89,13 @@ impl NewEntry {
     }
 
     /// Whether it stands at node i.
-    pub fn stands(&self, i: u16) -> bool
-        ensures { result ≡ at_either self.now.node self.now.partner i }
+    pub fn stands(self, i: u16) -> bool
+        ensures { result ≡ at_either self.node self.partner i }
     {
-        self.node == i || self.partner == Some(i)
+        match self.partner {
+            None => self.node == i,
+            Some(partner) => self.node == i || partner == i,
+        }
     }
 }
 

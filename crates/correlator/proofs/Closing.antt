@@ -27,7 +27,7 @@ opened Stage.Open e = refl
 opened Stage.Closed e = absurd (nothing e)
 
 pub sound_closed : (ahead back back' : Meaning) (t t' : Trace) → Sound ahead back t → t.stage ≡ Stage.Open → traced t' ≡ after (traced t) Call.close → t'.sent ≡ t.sent →
-    back' ≡ fed_through back (follower (sent_of t.sent) (length t.events.items)) t.events.items → Sound ahead back' t'
+    back' ≡ fed_through back (follower (sent_of t.sent) (length t.events)) t.events → Sound ahead back' t'
 sound_closed ahead back back' t t' sound open-is now same fed-back =
     let h = traced t in
     let vs : List Event = h.events in
@@ -40,8 +40,8 @@ sound_closed ahead back back' t t' sound open-is now same fed-back =
       follows = sound.follows ∙ ap fed (sym now);
       returns =
           fed-back
-          ∙ ap₂ (λ (μ : Meaning) (n : ℕ). fed_through μ (follower held n) t.events.items) empty (sym (length-reverse t.events.items))
-          ∙ ap (fed_through (meaning t.nodes []) (follower held (length vs))) (sym (reverse-reverse t.events.items))
+          ∙ ap₂ (λ (μ : Meaning) (n : ℕ). fed_through μ (follower held n) t.events) empty (sym (length-reverse t.events))
+          ∙ ap (fed_through (meaning t.nodes []) (follower held (length vs))) (sym (reverse-reverse t.events))
           ∙ whole
           ∙ ap (λ (x : History). meaning x.nodes (cond (is_closed x.stage) (backward x.events) [])) (sym now);
       lawful = subst Lawful (sym now) kept;

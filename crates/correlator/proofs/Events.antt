@@ -92,7 +92,7 @@ module _ (ahead back : Meaning) (t : Trace) (sound : Sound ahead back t) (seen :
         fed-on ∙ ap₂ (λ (i : ℕ) (j : Option ℕ). taken ahead i j m) at-n at-b
         ∙ ap (λ (μ : Meaning). taken μ (node_of v) (partner_of v) m) sound.follows ∙ takes_it (traced t) v here.may m here.follows
 
-    pub sound_next : (t' : Trace) → traced t' ≡ with_event (traced t) v → ((k : ℕ) → sent_of t'.sent k ≡ noted v (length t.events.items) (sent_of t.sent) k) → Sound ahead' back t'
+    pub sound_next : (t' : Trace) → traced t' ≡ with_event (traced t) v → ((k : ℕ) → sent_of t'.sent k ≡ noted v (length t.events) (sent_of t.sent) k) → Sound ahead' back t'
     sound_next t' grown sets =
         let h = traced t in record {
           follows = took ∙ ap fed (sym grown);
@@ -101,14 +101,14 @@ module _ (ahead back : Meaning) (t : Trace) (sound : Sound ahead back t) (seen :
           posts = λ k. sets k ∙ noted-posted k ∙ ap (λ (x : History). posted x.events k) (sym grown);
         }
       where
-        noted-posted : (k : ℕ) → noted v (length t.events.items) (sent_of t.sent) k ≡ posted (v ∷ (told t).events) k
+        noted-posted : (k : ℕ) → noted v (length t.events) (sent_of t.sent) k ≡ posted (v ∷ (told t).events) k
         noted-posted k = rw (sound.posts k) (ap (λ (l : ℕ). noted v l (posted (told t).events) k) (sym (told-length t)))
 
-    pub placed : (count : Option ℕ) (index : ℕ) → count ≡ counted ahead' (length t.events.items) n → index ≡ unwrap_or count 0 →
+    pub placed : (count : Option ℕ) (index : ℕ) → count ≡ counted ahead' (length t.events) n → index ≡ unwrap_or count 0 →
         record { node = n; index = index } ≡ next_place (history seen) (node_of v)
     placed count index counts is-count =
         let h = traced t in
         let counted-here : index ≡ next_index (told t).events (node_of v) =
-        is-count ∙ ap or_zero (counts ∙ ap₂ (λ (μ : Meaning) (i : ℕ). counted μ (length t.events.items) i) took at-n)
+        is-count ∙ ap or_zero (counts ∙ ap₂ (λ (μ : Meaning) (i : ℕ). counted μ (length t.events) i) took at-n)
         ∙ ap (λ (l : ℕ). or_zero (counted (fed (with_event h v)) l (node_of v))) (sym (told-length t)) ∙ new_index h v here.may in
         ap₂ (λ (i k : ℕ). record { node = i; index = k }) at-n counted-here ∙ ap (λ (x : Told). next_place (history x) (node_of v)) is

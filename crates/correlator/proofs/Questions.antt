@@ -145,7 +145,7 @@ module _ (ahead back : Meaning) (t : Trace) (sound : Sound ahead back t) (seen :
       (counts_decide h lawful p x y e (named-low h q y f))
 
   -- a row of counts is the row of timestamps that was asked for
-  row-stamped : (p : Place) (d len x : ℕ) (count : ℕ → ℕ) (old : List ℕ) → refusal (history seen) (Call.stamp p d len) ≡ None → named (history seen) p ≡ Some x →
+  pub row-stamped : (p : Place) (d len x : ℕ) (count : ℕ → ℕ) (old : List ℕ) → refusal (history seen) (Call.stamp p d len) ≡ None → named (history seen) p ≡ Some x →
       ((i : ℕ) → is_node seen.nodes i ≡ true → count i ≡ stamp_number (history seen) d x i) → with_row seen.nodes count old ≡ stamped (history seen) p d len old
   row-stamped p d len x count old free e like =
       let h = history seen in
@@ -160,13 +160,13 @@ module _ (ahead back : Meaning) (t : Trace) (sound : Sound ahead back t) (seen :
         ∙ row-stamped p d len x _ old free e (λ i node.
         ap (λ (μ : Meaning). or_zero (counted μ x i)) follows ∙ counted-fore h x i (named-low h p x e) node ∙ sym (cond-true _ _ _ (eq-eqb d 1 one)))
 
-    pub stamped-reverse : d ≡ 2 → (last : ℕ) → last ≡ (length t.events.items) - 1 - x → new ≡ with_row t.nodes (λ i. or_zero (counted back last i)) old → new ≡ stamped (history seen) p d len old
+    pub stamped-reverse : d ≡ 2 → (last : ℕ) → last ≡ (length t.events) - 1 - x → new ≡ with_row t.nodes (λ i. or_zero (counted back last i)) old → new ≡ stamped (history seen) p d len old
     stamped-reverse two last is-last row =
         let h = history seen in
         let vs = seen.events in
         let not-one : d ≡ 1 → ⊥ = λ f. omega arith in
         let low = named-low h p x e in
-        let size : (length t.events.items) ≡ length vs = sym (told-length t) ∙ ap (λ (s : Told). length s.events) is in
+        let size : (length t.events) ≡ length vs = sym (told-length t) ∙ ap (λ (s : Told). length s.events) is in
         let closed = reverse_closed h p d len free not-one in
         let meant : back ≡ meaning seen.nodes (backward vs) =
         sound.returns ∙ ap (λ (s : Told). meaning s.nodes (cond (is_closed s.stage) (backward s.events) [])) is

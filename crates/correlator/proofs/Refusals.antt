@@ -17,10 +17,10 @@ use Rattle.history.specs.declared.refusal.Refusal.{Refusal}
 use Rattle.correlator.specs.Told.{Told, history}
 use Rattle.correlator.specs.Trace.{told, traced, local_tests, send_tests, receive_tests, meet_tests}
 
-pub told-length : (t : Trace) → length (told t).events ≡ length t.events.items
-told-length t = length-reverse t.events.items
+pub told-length : (t : Trace) → length (told t).events ≡ length t.events
+told-length t = length-reverse t.events
 
-full_is : (t : Trace) → is_full (told t).events ≡ leb 512 (length t.events.items)
+pub full_is : (t : Trace) → is_full (told t).events ≡ leb 512 (length t.events)
 full_is t = ap (leb 512) (told-length t)
 
 -- the trace t was told `seen`

@@ -13,7 +13,7 @@ use Rattle.correlator.specs.declared.trace.Trace.{Trace}
 use Rattle.correlator.specs.Told.{Told, history}
 
 abbrev pub told : Trace → Told
-told t = record { stage = t.stage; nodes = t.nodes; events = reverse t.events.items }
+told t = record { stage = t.stage; nodes = t.nodes; events = reverse t.events }
 
 abbrev pub traced : Trace → History
 traced t = history (told t)
@@ -25,19 +25,19 @@ abbrev pub open_tests : History → List (Bool × Refusal)
 open_tests h = (is_idle h.stage, Refusal.Idle) ∷ (is_closed h.stage, Refusal.Closed) ∷ []
 
 abbrev pub local_tests : Trace → ℕ → List (Bool × Refusal)
-local_tests t a = in_trace (traced t) (is_node t.nodes a) ((nat_le max_events (length t.events.items), Refusal.Full) ∷ [])
+local_tests t a = in_trace (traced t) (is_node t.nodes a) ((nat_le max_events (length t.events), Refusal.Full) ∷ [])
 
 abbrev pub meet_tests : Trace → ℕ → ℕ → List (Bool × Refusal)
 meet_tests t a b =
-    in_trace (traced t) (is_node t.nodes a && is_node t.nodes b) ((a == b, Refusal.SameNode) ∷ (nat_le max_events (length t.events.items), Refusal.Full) ∷ [])
+    in_trace (traced t) (is_node t.nodes a && is_node t.nodes b) ((a == b, Refusal.SameNode) ∷ (nat_le max_events (length t.events), Refusal.Full) ∷ [])
 
 abbrev pub send_tests : Trace → ℕ → ℕ → List (Bool × Refusal)
 send_tests t a m =
     in_trace (traced t) (is_node t.nodes a)
-    ((m == 0, Refusal.NoMessage) ∷ (not (is_none (sent_of t.sent m)), Refusal.SentBefore) ∷ (nat_le max_events (length t.events.items), Refusal.Full) ∷ [])
+    ((m == 0, Refusal.NoMessage) ∷ (not (is_none (sent_of t.sent m)), Refusal.SentBefore) ∷ (nat_le max_events (length t.events), Refusal.Full) ∷ [])
 
 abbrev pub receive_tests : Trace → ℕ → ℕ → List (Bool × Refusal)
 receive_tests t a m =
     in_trace (traced t) (is_node t.nodes a)
     ((m == 0, Refusal.NoMessage) ∷ (is_none (sent_of t.sent m), Refusal.NotSent) ∷ (is_received (sent_of t.sent m), Refusal.ReceivedBefore)
-    ∷ (is_by a (sent_of t.sent m), Refusal.SameNode) ∷ (nat_le max_events (length t.events.items), Refusal.Full) ∷ [])
+    ∷ (is_by a (sent_of t.sent m), Refusal.SameNode) ∷ (nat_le max_events (length t.events), Refusal.Full) ∷ [])

@@ -1,11 +1,10 @@
 //! The trace of a job, as the event calls told it.
 
-ghost use Rattle.arrayvec.specs.ArrayVec.{array_vec_len};
 ghost use Rattle.std.specs.Prelude.{◌≤◌, length};
 
-use arrayvec::ArrayVec;
 use causality::{EVENTS, Event};
 use history::Stage;
+use logs::Log;
 use records::Messages;
 
 pub mod checks;
@@ -16,7 +15,7 @@ pub mod events;
 pub struct Trace {
     pub stage: Stage,
     pub nodes: u16,
-    pub events: ArrayVec<Event, EVENTS>,
+    pub events: Log<Event, EVENTS>,
     pub sent: Messages,
-    ghost fewer: { length sent ≤ array_vec_len events },
+    ghost fewer: { length sent ≤ length events },
 }

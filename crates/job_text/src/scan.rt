@@ -25,8 +25,11 @@ pub enum Fault {
 pub fn check_text(text: &[u8]) -> Result<u16, Fault>
     ensures { Checked text.now result }
 {
+    if text.len() > MAX_BYTES {
+        return Err(Fault::TooLong);
+    }
     let lines = count_lines(text);
-    if text.len() > MAX_BYTES || lines > MAX_LINES {
+    if lines > MAX_LINES {
         return Err(Fault::TooLong);
     }
     let mut good: u16 = 0;

@@ -1,23 +1,27 @@
 -- Numbers and places at the front of a list: there is at most one, and the digits in front spell it.
-use Rattle.std.proofs.Common.{◌≡◌, ℕ, ◌<◌, ◌≤◌, Bool, true, false, not, cond, eqb, ltb, List, [], ◌∷◌, ◌++◌, Option, Some, None, Result, Ok, Err, MatchOption, MatchResult, length, get_or, take, drop, decimal, sym, refl, ap, ◌∙◌, inl, inr, subst, append_assoc, append-nil, one-add, arith, take-append-drop}
+use Rattle.std.proofs.Common.{◌≡◌, ℕ, ◌+◌, ◌-◌, ◌*◌, ◌<◌, ◌≤◌, Bool, true, false, not, cond, ltb, List, [], ◌∷◌, ◌++◌, Option, Some, None, Result, Ok, Err, length, get_or, take, drop, decimal, sym, refl, ap, ◌∙◌, inl, inr, subst, append_assoc, append-nil, add-zero, one-add, arith, length-append, length-drop, take-append-drop}
 use Rattle.causality.specs.declared.Place.{Place}
-use Rattle.std.specs.Result.{result_ok}
 use Rattle.std.specs.Option.{unwrap_or}
-use Rattle.std.specs.Str.{IsUtf8}
-use Rattle.std.specs.Str.Parse.{AllDigits, ParsesUnsigned, digits_value, without_leading_plus}
+use Rattle.std.specs.Result.{OkIff, result_ok}
+use Rattle.std.specs.Str.Parse.{AllDigits, digits_value, digits_value_after}
 use Rattle.std.specs.List.{AllByRecursion, position_or_len}
-use Rattle.std.proofs.lemmas.Fmt.{decimal-digits_value, digits_decimal, decimal_digit, decimal_nonempty, first_decimal, decimal_injective, parse-decimal, IsAscii-decimal}
-use Rattle.std.proofs.lemmas.Str.{IsUtf8-from_ascii}
-use Rattle.std.proofs.ByRecursion.{All-from_get_or, All-weaker}
-use Rattle.std.proofs.lemmas.Str.Parse.{digit_at, numerals_by_value, tells_digits, IsNumeralModel}
-use Rattle.std.specs.Char.{is_ascii_digit}
-use Rattle.std.proofs.lemmas.Bool.Decides.{nat_tests}
-use Rattle.std.proofs.lemmas.Bool.{both_ways, cases_Bool, cases_lt, lt-ltb, le-ltb, ne_eqb}
+use Rattle.std.proofs.lemmas.Fmt.{decimal-digits_value, digits_value-decimal, digits_decimal, decimal_digit, decimal_nonempty, first_decimal, decimal_injective, length-decimal-le}
+use Rattle.std.proofs.lemmas.Int.Digits.{digits_value_more}
+use Rattle.std.proofs.lemmas.List.{drop-drop, get_or-drop, get_or-take, get_or_append_left, length-take-le, take_more, take_rest}
+use Rattle.std.proofs.lemmas.Str.{digit_value_digit}
+use Rattle.std.proofs.ByRecursion.{All-from_get_or, All-push}
+use Rattle.std.proofs.lemmas.Str.Parse.{digit_at, digits_value_short, numerals_by_value, tells_digits, IsNumeralModel}
+use Rattle.std.specs.Char.{digit_value}
+use Rattle.std.proofs.lemmas.Bool.{both_ways, cases_Bool, cases_lt, lt-ltb, le-ltb}
 use Rattle.std.proofs.lemmas.List.Sums.{prefix_len-le-length}
 use Rattle.line_parts.specs.Parts.{At, Digit, NumberAt, PlaceAt, Run, Small, SoundPlace, placed}
 
 own : IsNumeralModel (AllDigits 10) (digits_value 10)
 own = numerals_by_value (AllDigits 10) tells_digits
+
+own_digits : (ds : List ℕ) → AllByRecursion Digit ds → AllDigits 10 ds
+own_digits [] all = tt
+own_digits (d ∷ ds) all = (omega (arith, digit_value_digit d all.0), own_digits ds all.1)
 
 -- Values at the front.
 
@@ -94,45 +98,103 @@ pub keyed : (key rest : List ℕ) → get_or key 0 0 ≡ 32 → get_or (key ++ r
 keyed [] rest space = absurd (omega arith)
 keyed (k ∷ key) rest space = space
 
--- The bytes of a number.
+short : (n : ℕ) → Small n → length (decimal n) ≤ 5
+short n (pos, small) = length-decimal-le 5 n (omega arith) (omega arith) (omega arith)
 
--- they begin with 1 to 9
-pub begins : (ds : List ℕ) (n : ℕ) → Small n → ds ≡ decimal n → (0 < length ds) × (49 ≤ get_or ds 0 0) × (get_or ds 0 0 ≤ 57)
-begins ds n (pos, small) e =
-    let some = decimal_nonempty n (omega arith) in
-    let d = digit_at (decimal n) 0 (digits_decimal own n (omega arith)) some in
-    subst (λ l. (0 < length l) × (49 ≤ get_or l 0 0) × (get_or l 0 0 ≤ 57)) (sym e) (some, first_decimal n pos (omega arith), d.1)
-
--- what `parse` reads from bytes that begin so is spelt by them
-parsed : (ds : List ℕ) (n : ℕ) → 0 < length ds → 49 ≤ get_or ds 0 0 → get_or ds 0 0 ≤ 57 → ParsesUnsigned {E = ℕ} 16 10 ds (Ok n) → Small n × (ds ≡ decimal n)
-parsed ds n some lo hi h =
-    let plus : eqb (get_or ds 0 0) 43 ≡ false = ne_eqb _ 43 (omega arith) in
-    let same : without_leading_plus ds ≡ ds = rw plus in
-    let all : AllDigits 10 ds = subst (AllDigits 10) same h.0.0.1 in
-    let is : n ≡ digits_value 10 ds = h.1 ∙ ap (digits_value 10) same in
-    let fits : digits_value 10 ds < 65536 = subst (λ l. digits_value 10 l < 65536) same h.0.1 in
-    let spelt : decimal n ≡ ds = ap decimal is ∙ decimal-digits_value own ds all some (λ e. absurd (omega arith)) (omega arith) in (
+-- the digits of a value that fits spell it
+spells : (ds : List ℕ) (n : ℕ) → AllByRecursion Digit ds → 0 < length ds → 49 ≤ get_or ds 0 0 → n ≡ digits_value 10 ds → n < 65536 → Small n × (ds ≡ decimal n)
+spells ds n all some lo is fits =
+    let spelt : decimal n ≡ ds = ap decimal is ∙ decimal-digits_value own ds (own_digits ds all) some (λ e. absurd (omega arith)) (omega arith) in (
       elim (cases_lt 0 n) [
-        | inl lt ↦ (lt, omega arith)
+        | inl lt ↦ (lt, fits)
         | inr le ↦ absurd (let zero : n ≡ 0 = omega arith in let e = ap (λ l. get_or l 0 0) (sym spelt ∙ ap decimal zero ∙ decimal_digit 0 (omega arith)) in omega arith)
       ],
       sym spelt,
     )
 
-pub read : {E : Type 0} (ds : List ℕ) (r : Result ℕ E) (o : Option ℕ) → o ≡ result_ok r → 0 < length ds → 49 ≤ get_or ds 0 0 → get_or ds 0 0 ≤ 57 → ParsesUnsigned 16 10 ds r →
-    MatchOption o ((n : ℕ) → Small n → ds ≡ decimal n → ⊥) (λ n. Small n × (ds ≡ decimal n))
-read ds (Ok n) o e some lo hi h = rw e (parsed ds n some lo hi h)
-read ds (Err f) o e some lo hi h = rw e (λ n small spelt. let same = parse-decimal 16 n ds (Err f) small.1 (let s = small.1 in omega arith) spelt h in cc)
+after_ge : (a : ℕ) (ds : List ℕ) → a ≤ digits_value_after 10 a ds
+after_ge a [] = omega arith
+after_ge a (d ∷ ds) = let r = after_ge (a * 10 + digit_value d) ds in omega arith
 
--- and such bytes are a text
-pub a_text : {T E : Type 0} (P : T → Type 0) (Q : E → Type 0) (ds : List ℕ) (r : Result T E) → None ≡ result_ok r → MatchResult r P (λ e. ¬ (IsUtf8 ds) × Q e) → (n : ℕ) → Small n → ds ≡ decimal n → ⊥
-a_text P Q ds (Ok x) none h n small e = cc
-a_text P Q ds (Err x) none h n small e = h.0 (subst IsUtf8 (sym e) (IsUtf8-from_ascii (decimal n) (IsAscii-decimal n (let s = small.1 in omega arith))))
+-- digits in front are worth no more than all of them
+front_le : (xs ys p q : List ℕ) (a : ℕ) → AllByRecursion Digit xs → (Digit (get_or q 0 0) → ⊥) → xs ++ p ≡ ys ++ q → digits_value_after 10 a xs ≤ digits_value_after 10 a ys
+front_le [] ys p q a all stop e = after_ge a ys
+front_le (x ∷ xs) [] p q a all stop e = absurd (stop (subst Digit (ap (λ l. get_or l 0 0) e) all.0))
+front_le (x ∷ xs) (y ∷ ys) p q a all stop e =
+    let h : x ≡ y = ap (λ l. get_or l 0 0) e in
+    subst (λ z. digits_value_after 10 (a * 10 + digit_value x) xs ≤ digits_value_after 10 (a * 10 + digit_value z) ys) h (front_le xs ys p q (a * 10 + digit_value x) all.1 stop (ap (drop 1) e))
 
--- what `ok()` keeps
-pub kept : {T E : Type 0} (P : T → Type 0) (Q : E → Type 0) (x : T) (r : Result T E) → Some x ≡ result_ok r → MatchResult r P Q → P x
-kept P Q x (Ok y) e h = subst P (let same : y ≡ x = cc in same) h
-kept P Q x (Err f) e h = cc
+-- a number begins with 1 to 9
+pub begins : (s : List ℕ) (m : ℕ) (rest : List ℕ) → NumberAt s m rest → (0 < length s) × (49 ≤ get_or s 0 0) × (get_or s 0 0 ≤ 57)
+begins s m rest h =
+    let pos = h.sound.0 in
+    let small = h.sound.1 in
+    let some = decimal_nonempty m (omega arith) in
+    let here : get_or s 0 0 ≡ get_or (decimal m) 0 0 = ap (λ l. get_or l 0 0) h.spelt ∙ get_or_append_left (decimal m) rest 0 0 some in
+    let d = digit_at (decimal m) 0 (digits_decimal own m (omega arith)) some in
+    (omega (arith, ap length h.spelt, length-append (decimal m) rest), omega (arith, first_decimal m pos (omega arith)), omega arith)
+
+-- The loop over the digits: i of them are read, n is their value, and `rest` is left.
+
+pub record Sofar (s rest : List ℕ) (i n : ℕ) : Type 0 where
+  pub within : i ≤ length s
+  pub left : rest ≡ drop i s
+  pub digits : AllByRecursion Digit (take i s)
+  pub is : n ≡ digits_value 10 (take i s)
+
+pub start : (s : List ℕ) → Sofar s s 0 0
+start s = record { within = omega arith; left = refl; digits = tt; is = refl }
+
+module _ {s rest : List ℕ} {i n : ℕ} (h : Sofar s rest i n) where
+  read_length : length (take i s) ≡ i
+  read_length = length-take-le i s h.within
+
+  first_left : get_or rest 0 0 ≡ get_or s i 0
+  first_left = ap (λ l. get_or l 0 0) h.left ∙ get_or-drop i s 0 0 ∙ ap (λ k. get_or s k 0) (add-zero i)
+
+  pub few : i ≤ 6 → n < 1000000
+  few le = let is = h.is in omega (arith, digits_value_short own (take i s) 6 (own_digits (take i s) h.digits) (omega (arith, read_length)))
+
+  -- one more digit
+  pub more : 0 < length rest → Digit (get_or rest 0 0) → Sofar s (take (length rest - 1) (drop 1 rest)) (i + 1) (n * 10 + (get_or rest 0 0 - 48))
+  more some d =
+      let lt : i < length s = omega (arith, ap length h.left, length-drop i s) in
+      let is = h.is in
+      record {
+        within = omega arith;
+        left = take_rest rest 1 ∙ ap (drop 1) h.left ∙ drop-drop 1 i s;
+        digits = subst (AllByRecursion Digit) (sym (take_more s i 0 lt)) (All-push Digit (take i s) (get_or s i 0) h.digits (subst Digit first_left d));
+        is = omega (arith, digits_value_more 10 s i lt, digit_value_digit (get_or rest 0 0) d, ap digit_value first_left);
+      }
+
+  -- their value is a number where it fits and no digit is left
+  pub number_here : i ≤ 6 → 0 < length s → 49 ≤ get_or s 0 0 → get_or s 0 0 ≤ 57 → (i < 6 → Digit (get_or rest 0 0) → ⊥) → n < 65536 → NumberAt s n rest
+  number_here le some lo hi stop fits = elim (cases_lt 0 i) [
+    | inl pos ↦
+        let long = read_length in
+        let read = spells (take i s) n h.digits (omega arith) (subst (λ x. 49 ≤ x) (sym (get_or-take i s 0 0 pos)) lo) h.is fits in
+        record {
+          sound = read.0;
+          spelt = sym (take-append-drop i s) ∙ ap (λ l. l ++ drop i s) read.1 ∙ ap (λ l. decimal n ++ l) (sym h.left);
+          stops = stop (omega (arith, ap length read.1, short n read.0));
+        }
+    | inr zero ↦ absurd (let none : i ≡ 0 = omega arith in stop (omega arith) (subst Digit (sym first_left) (subst (λ k. Digit (get_or s k 0)) (sym none) (omega arith, hi))))
+  ]
+
+  -- and where it does not fit, no number stands in front
+  pub too_large : 65536 ≤ n → (m : ℕ) (t : List ℕ) → NumberAt s m t → ⊥
+  too_large big m t k =
+      let small = k.sound.1 in
+      omega (arith, h.is, front_le (take i s) (decimal m) (drop i s) t 0 h.digits k.stops (take-append-drop i s ∙ k.spelt), digits_value-decimal own m (omega arith))
+
+-- what `ok` keeps fits, and what it drops doesn't
+pub fits : {E : Type 0} {n v : ℕ} (r : Result ℕ E) → Some n ≡ result_ok r → OkIff r (v < 65536) v → (v < 65536) × (v ≡ n)
+fits (Ok x) e f = (f.0, cc)
+fits (Err x) e f = absurd cc
+
+pub fits_not : {E : Type 0} {v : ℕ} (r : Result ℕ E) → None ≡ result_ok r → OkIff r (v < 65536) v → 65536 ≤ v
+fits_not (Ok x) e f = absurd cc
+fits_not {v = v} (Err x) e f = elim (cases_lt v 65536) [ inl lt ↦ absurd (f lt) | inr le ↦ le ]
 
 -- ---- the longest run of one class in front
 
@@ -158,19 +220,3 @@ module _ (test : ℕ → Bool) (none : test 0 ≡ false) where
       ] in
       let r = run_cut s in
       record { whole = take-append-drop n s; all = rw at r.0; stops = rw at r.1 }
-
--- bytes that pass the test of digits are digits
-pub run_digits : {s front rest : List ℕ} → Run (λ b. is_ascii_digit b ≡ true) s front rest → Run Digit s front rest
-run_digits {front = front} h = record {
-  whole = h.whole;
-  all = All-weaker (λ b. is_ascii_digit b ≡ true) Digit (λ b y. grind (arith, nat_tests)) front h.all;
-  stops = λ d. h.stops (grind (arith, nat_tests));
-}
-
--- where the digits in front spell no number, no number stands in front
-pub no_number : {s ds rest : List ℕ} → Run Digit s ds rest → ((n : ℕ) → Small n → ds ≡ decimal n → ⊥) → (n : ℕ) (t : List ℕ) → NumberAt s n t → ⊥
-no_number {ds = ds} {rest = rest} h none n t k = none n k.sound (same_run Digit ds (decimal n) rest t h.all (all_digits n k.sound) h.stops k.stops (h.whole ∙ k.spelt)).0
-
--- where they spell one, it stands in front
-pub number_here : {s ds rest : List ℕ} {n : ℕ} → Run Digit s ds rest → Small n × (ds ≡ decimal n) → NumberAt s n rest
-number_here {rest = rest} h read = record { sound = read.0; spelt = sym h.whole ∙ ap (λ l. l ++ rest) read.1; stops = h.stops }

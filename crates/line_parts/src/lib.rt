@@ -1,30 +1,34 @@
 //! Readers of the parts of a line of the job text: each takes the bytes and gives a value and what follows it.
 #![tactic(auto)]
 
-ghost use Rattle.std.specs.Prelude.{◌≡◌, ℕ, Bool, false, true, List, ◌++◌, decimal, MatchOption, ◌≢◌};
+ghost use Rattle.std.specs.Prelude.{◌≡◌, ℕ, Bool, false, true, List, ◌++◌, MatchOption, ◌≢◌};
 ghost use Rattle.causality.specs.declared.Place.{Place};
-ghost use Rattle.line_parts.specs.Parts.{NameAt, NumberAt, PlaceAt, Run, Small};
+ghost use Rattle.line_parts.specs.Parts.{NameAt, NumberAt, PlaceAt, Run};
 
 use causality::Place;
 use names::{MAX_NAME, is_letter};
+
+/// The most digits of a number.
+const MAX_DIGITS: usize = 5;
 
 /// The number that the bytes begin with, and what follows it.
 pub fn read_number(s: &[u8]) -> Option<(u16, &[u8])>
     ensures { MatchOption result ((n : ℕ) (rest : List ℕ) → NumberAt s.now n rest → ⊥) (λ x. NumberAt s.now x.0 x.1.now) }
 {
-    let (digits, rest) = split_while(s, |b| b.is_ascii_digit());
-    Some((value_of(digits)?, rest))
-}
-
-/// The number that the bytes spell: at most the largest `u16`, and its first digit is not 0.
-fn value_of(digits: &[u8]) -> Option<u16>
-    ensures { MatchOption result ((n : ℕ) → Small n → digits.now ≢ decimal n) (λ n. Small n × (digits.now ≡ decimal n)) }
-{
-    let first = digits.first()?;
-    if !(b'1'..=b'9').contains(first) {
+    let [b'1'..=b'9', ..] = s else {
         return None;
+    };
+    let mut n: u32 = 0;
+    let mut rest = s;
+    // With one digit more there is no number, however many follow.
+    for _ in 0..=MAX_DIGITS {
+        let [digit @ b'0'..=b'9', after @ ..] = rest else {
+            break;
+        };
+        n = n * 10 + u32::from(*digit - b'0');
+        rest = after;
     }
-    str::from_utf8(digits).ok()?.parse().ok()
+    Some((u16::try_from(n).ok()?, rest))
 }
 
 /// The place that the bytes begin with, and what follows it.

@@ -92,7 +92,7 @@ module _ (links : List Link) (latest_at latest_at' : List (Option ℕ)) (a : ℕ
   takes_same : (k : ℕ) → k ≤ (length links) → takes_of more k ≡ takes_of links k
   takes_same k l = listed_like _ _ k (λ e h. ap entry_of (old e (omega arith)))
 
-  takes_more : takes_of more ((length links) + 1) ≡ asked a b m ∷ takes_of links (length links)
+  pub takes_more : takes_of more ((length links) + 1) ≡ asked a b m ∷ takes_of links (length links)
   takes_more = rw add-one (ap₂ (λ (t : Entry) (ts : List Entry). t ∷ ts) (ap entry_of here) (takes_same (length links) (omega arith)))
 
   longer : length more ≡ length links + 1

@@ -3,15 +3,14 @@
 
 ghost use Rattle.std.specs.Prelude.{◌≡◌, ◌<◌, ◌≤◌, true, length, nat_lt, slice_index_or};
 ghost use Rattle.std.specs.Option.{option_to_list};
-ghost use Rattle.arrayvec.specs.ArrayVec.{array_vec_len};
 ghost use Rattle.causality.specs.Entries.{at as timeline_at, stamp};
 ghost use Rattle.causality.specs.Limits.{max_nodes, is_node};
 ghost use Rattle.clock.specs.Meaning.{max_entries, blank, if_given};
 ghost use Rattle.link_clock.specs.Links.{no_link, before, earlier, all_takes, links_mean, Kept, latest_of, Noted, marked, met, visited};
 ghost use Rattle.clock.proofs.Takes.{meanings_lawful};
 
-use arrayvec::ArrayVec;
 use clock::{Clock, ENTRIES, MAX_NODES, NODES, NewEntry, Predecessors, admits, is_node, knows};
+use logs::Log;
 
 /// An entry as it was taken, and what came just before it.
 #[derive(Clone, Copy, Default)]
@@ -24,11 +23,11 @@ struct Link {
 #[derive(Drop)]
 pub struct LinkClock {
     nodes: u16,
-    links: ArrayVec<Link, ENTRIES>,
+    links: Log<Link, ENTRIES>,
     latest: [Option<u16>; NODES],
     ghost long: { length latest ≡ max_nodes },
-    ghost within: { (array_vec_len links ≤ max_entries) × (nodes ≤ max_nodes) },
-    ghost kept: { Kept links.items latest },
+    ghost within: { (length links ≤ max_entries) × (nodes ≤ max_nodes) },
+    ghost kept: { Kept links latest },
 }
 
 /// Entry e is now the latest at its nodes.
@@ -67,7 +66,7 @@ impl LinkClock {
     /// Sets n nodes and no entries.
     fn clear(&mut self, n: u16)
         requires { is_node max_nodes n ≡ true }
-        ensures { links_mean self.new.nodes self.new.links.items ≡ blank n }
+        ensures { links_mean self.new.nodes self.new.links ≡ blank n }
     {
         self.nodes = n;
         self.links.clear();
@@ -76,7 +75,7 @@ impl LinkClock {
 
     /// How many entries there are.
     fn len(&self) -> u16
-        ensures { result ≡ array_vec_len self.now.links }
+        ensures { result ≡ length self.now.links }
     {
         self.links.len() as u16
     }
@@ -91,9 +90,9 @@ impl LinkClock {
 
     /// Visits entry x: if it is marked, marks what comes before it, and answers whether it then stands at node i.
     fn visit(&self, marks: &mut [bool; ENTRIES], x: usize, i: u16) -> bool
-        requires { (x < array_vec_len self.now.links) × (earlier max_entries (slice_index_or self.now.links.items x no_link) ≡ true) }
-        ensures after { marks.new ≡ visited self.now.links.items marks.old x }
-        ensures value { result ≡ met self.now.links.items marks.old x i }
+        requires { (x < length self.now.links) × (earlier max_entries (slice_index_or self.now.links x no_link) ≡ true) }
+        ensures after { marks.new ≡ visited self.now.links marks.old x }
+        ensures value { result ≡ met self.now.links marks.old x i }
     {
         if !marks[x] {
             return false;
@@ -105,8 +104,8 @@ impl LinkClock {
 
     /// How many entries at node i lie in the past of e: one pass from e down to the oldest.
     fn walk(&self, e: u16, i: u16) -> u16
-        requires { e < array_vec_len self.now.links }
-        ensures { result ≡ stamp (all_takes self.now.links.items) e i }
+        requires { e < length self.now.links }
+        ensures { result ≡ stamp (all_takes self.now.links) e i }
     {
         let mut marks = [false; ENTRIES];
         marks[e as usize] = true;
@@ -120,7 +119,7 @@ impl LinkClock {
     /// The k-th entry at node i: one pass from the oldest up.
     fn find(&self, i: u16, k: u16) -> Option<u16>
         requires { 1 ≤ k }
-        ensures { result ≡ timeline_at (all_takes self.now.links.items) i k }
+        ensures { result ≡ timeline_at (all_takes self.now.links) i k }
     {
         let mut standing = self
             .links
@@ -132,20 +131,20 @@ impl LinkClock {
 }
 
 impl Clock for LinkClock {
-    ghost means = { λ s. links_mean s.nodes s.links.items };
+    ghost means = { λ s. links_mean s.nodes s.links };
 
-    ghost own = { λ s. (meanings_lawful s.nodes (all_takes s.links.items)).own };
+    ghost own = { λ s. (meanings_lawful s.nodes (all_takes s.links)).own };
 
-    ghost through = { λ s. (meanings_lawful s.nodes (all_takes s.links.items)).through };
+    ghost through = { λ s. (meanings_lawful s.nodes (all_takes s.links)).through };
 
-    ghost earliest = { λ s. (meanings_lawful s.nodes (all_takes s.links.items)).earliest };
+    ghost earliest = { λ s. (meanings_lawful s.nodes (all_takes s.links)).earliest };
 
-    ghost no_higher = { λ s. (meanings_lawful s.nodes (all_takes s.links.items)).no_higher };
+    ghost no_higher = { λ s. (meanings_lawful s.nodes (all_takes s.links)).no_higher };
 
     fn new() -> LinkClock {
         LinkClock {
             nodes: 1,
-            links: ArrayVec::new(),
+            links: Log::new(Link::default()),
             latest: [None; NODES],
         }
     }

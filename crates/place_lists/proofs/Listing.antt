@@ -63,7 +63,18 @@ ended {done = done} {p = p} h k e small =
       is = h.is ∙ ap (λ l. before done ++ l) (k.spelt ∙ ap (λ l. placed p ++ l) e ∙ append-nil (placed p)) ∙ joins done p;
     }
 
--- the same with the places in memory, which was `old`
+-- the same with the number of places alone
+abbrev pub Counted : List ℕ → List ℕ → ℕ → Type 0
+Counted s rest n = (done : List Place) × Sofar s rest done × (length done ≡ n)
+
+module _ {s rest after : List ℕ} {p : Place} (n : ℕ) (small : n < 512) (k : PlaceAt rest p after) where
+  pub count-more : {next : List ℕ} → Counted s rest n → after ≡ 44 ∷ next → Counted s next (n + 1)
+  count-more (done, h, long) e = (done ++ p ∷ [], more h k e, omega (arith, length-append done (p ∷ [])))
+
+  pub count_ended : Counted s rest n → after ≡ [] → (ps : List Place) × Lists s ps × (length ps ≡ n + 1)
+  count_ended (done, h, long) e = (done ++ p ∷ [], ended h k e (omega arith), omega (arith, length-append done (p ∷ [])))
+
+-- and with the places in memory, which was `old`
 pub record Stored (s rest : List ℕ) (old : List Place) (n : ℕ) (ps : List Place) : Type 0 where
   pub long : length ps ≡ 512
   pub front : Sofar s rest (take n ps)

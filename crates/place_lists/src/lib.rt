@@ -13,7 +13,15 @@ use line_parts::{read_place, strip};
 pub fn count_places(list: &[u8]) -> Option<usize>
     ensures { MatchOption result ((ps : List Place) → Lists list.now ps → ⊥) (λ n. (ps : List Place) × Lists list.now ps × (length ps ≡ n)) }
 {
-    read_places(list, &mut [Place { node: 0, index: 0 }; MAX_PLACES])
+    let mut rest = list;
+    for n in 0..MAX_PLACES {
+        let (_, after) = read_place(rest)?;
+        if after.is_empty() {
+            return Some(n + 1);
+        }
+        rest = strip(after, b",")?;
+    }
+    None
 }
 
 /// Stores the places that the bytes list, in their order, and answers how many; none if they are no list. The places behind

@@ -10,7 +10,6 @@ use mathlib.Core.Bool.{or-false}
 use Rattle.causality.specs.Entries.{at_either}
 use Rattle.clock.specs.Arrays.{listed}
 use Rattle.clock.proofs.Arrays.{length-listed, listed_like}
-use Rattle.arrayvec.specs.ArrayVec.{ArrayVec}
 use Rattle.causality.specs.Limits.{max_nodes, is_node}
 use Rattle.clock.proofs.Arrays.{node_bounds}
 use Rattle.row_clock.specs.Rows.{no_column, line, line_of}
@@ -44,14 +43,14 @@ copied_is xs i None h = sym (slice_get_past xs i h.3)
 copied_is xs i (Some x) h = let (l, here) = h.3 in ap Some (here 0) ∙ sym (slice_get-get_or xs i 0 l)
 
 -- one more entry of a column
-pub line-push : (c d : ArrayVec ℕ) (e : ℕ) → d.items ≡ c.items ++ (e ∷ []) → line d ≡ e ∷ line c
+pub line-push : (c d : List ℕ) (e : ℕ) → d ≡ c ++ (e ∷ []) → line d ≡ e ∷ line c
 line-push c d e is =
     ap (λ (xs : List ℕ). listed (λ k. get_or xs k 0) (length xs)) is
-    ∙ rw (length-append c.items (e ∷ []), add-one) (ap₂ (λ (x : ℕ) (xs : List ℕ). x ∷ xs) (get_or-append_seam c.items e [] 0) (listed_like _ _ (length c.items) (λ k l. get_or_append_left c.items (e ∷ []) 0 k l)))
+    ∙ rw (length-append c (e ∷ []), add-one) (ap₂ (λ (x : ℕ) (xs : List ℕ). x ∷ xs) (get_or-append_seam c e [] 0) (listed_like _ _ (length c) (λ k l. get_or_append_left c (e ∷ []) 0 k l)))
 
 -- ---- columns with one more entry
 
-filed_at : (columns : List (ArrayVec ℕ)) (x : ArrayVec ℕ) (a e : ℕ) → is_node max_nodes a ≡ true → length columns ≡ max_nodes → line x ≡ e ∷ line_of columns a →
+filed_at : (columns : List (List ℕ)) (x : List ℕ) (a e : ℕ) → is_node max_nodes a ≡ true → length columns ≡ max_nodes → line x ≡ e ∷ line_of columns a →
     (i : ℕ) → is_node max_nodes i ≡ true → line_of (set columns (a - 1) x) i ≡ cond (eqb a i) (e ∷ line_of columns i) (line_of columns i)
 filed_at columns x a e node long grown i h =
     let (low, high) = node_bounds max_nodes a node in
@@ -61,11 +60,11 @@ filed_at columns x a e node long grown i h =
       | inr apart ↦ let ne : i - 1 ≢ a - 1 = omega arith in rw (ne_eqb a i apart) (ap line (get_or-set_other columns (a - 1) (i - 1) x no_column ne))
     ]
 
-module _ (columns : List (ArrayVec ℕ)) (x : ArrayVec ℕ) (a e : ℕ) (node : is_node max_nodes a ≡ true) (long : length columns ≡ max_nodes) (grown : line x ≡ e ∷ line_of columns a) where
+module _ (columns : List (List ℕ)) (x : List ℕ) (a e : ℕ) (node : is_node max_nodes a ≡ true) (long : length columns ≡ max_nodes) (grown : line x ≡ e ∷ line_of columns a) where
   pub filed_alone : (b : Option ℕ) → b ≡ None → (i : ℕ) → is_node max_nodes i ≡ true → line_of (set columns (a - 1) x) i ≡ cond (at_either a b i) (e ∷ line_of columns i) (line_of columns i)
   filed_alone b none i h = rw (none, or-false (eqb a i)) (filed_at columns x a e node long grown i h)
 
-  pub filed_two : (y : ArrayVec ℕ) (b : ℕ) (o : Option ℕ) → o ≡ Some b → is_node max_nodes b ≡ true → eqb b a ≡ false → line y ≡ e ∷ line_of (set columns (a - 1) x) b →
+  pub filed_two : (y : List ℕ) (b : ℕ) (o : Option ℕ) → o ≡ Some b → is_node max_nodes b ≡ true → eqb b a ≡ false → line y ≡ e ∷ line_of (set columns (a - 1) x) b →
       (i : ℕ) → is_node max_nodes i ≡ true → line_of (set (set columns (a - 1) x) (b - 1) y) i ≡ cond (at_either a o i) (e ∷ line_of columns i) (line_of columns i)
   filed_two y b o some there apart grown_b i h =
       let other = filed_one' i h in

@@ -9,7 +9,6 @@ use Rattle.std.specs.Option.{option_to_list}
 use Rattle.std.proofs.lemmas.List.{get_or_append_left}
 use Rattle.std.proofs.Math.Seq.{get_or-append_seam}
 use Rattle.std.proofs.lemmas.Bool.{cases_Bool, and_from, and_parts, le-leb, ltb-true}
-use Rattle.arrayvec.specs.ArrayVec.{ArrayVec, array_vec_len}
 use Rattle.causality.specs.Newest.{entry, tally}
 use Rattle.causality.specs.Entries.{Entry, at_either, timeline, newest, latest, past, stamp, greatest, next_stamp}
 use Rattle.causality.proofs.Newest.{entry_head, entry-tail}
@@ -38,11 +37,11 @@ greatest-append f (x ∷ xs) ys = omega (arith, greatest-append f xs ys)
 
 -- ---- what rows and columns tell of their takes
 
-module _ (rows : List Row) (columns : List (ArrayVec ℕ)) (ts : List Entry) (k : Keeps rows columns ts) where
-  column_len : (i : ℕ) → is_node max_nodes i ≡ true → array_vec_len (get_or columns (i - 1) no_column) ≡ length (timeline ts i)
-  column_len i h = sym (length-listed _ (array_vec_len (get_or columns (i - 1) no_column))) ∙ ap length (k.filed i h)
+module _ (rows : List Row) (columns : List (List ℕ)) (ts : List Entry) (k : Keeps rows columns ts) where
+  column_len : (i : ℕ) → is_node max_nodes i ≡ true → length (get_or columns (i - 1) no_column) ≡ length (timeline ts i)
+  column_len i h = sym (length-listed _ (length (get_or columns (i - 1) no_column))) ∙ ap length (k.filed i h)
 
-  pub column-low : (i : ℕ) → is_node max_nodes i ≡ true → array_vec_len (get_or columns (i - 1) no_column) ≤ (length rows)
+  pub column-low : (i : ℕ) → is_node max_nodes i ≡ true → length (get_or columns (i - 1) no_column) ≤ (length rows)
   column-low i h = omega (arith, column_len i h, line_low ts i, k.size)
 
   latest_in : (o : Option ℕ) → if_given (is_node max_nodes) o ≡ true → latest_of columns o ≡ latest ts o
@@ -68,13 +67,13 @@ module _ (rows : List Row) (columns : List (ArrayVec ℕ)) (ts : List Entry) (k 
       let y = option_to_list (latest ts b) in
       let most : greatest f (x ++ (y ++ option_to_list m)) ≡ max (greatest f x) (max (greatest f y) (greatest f (option_to_list m))) =
       greatest-append f x (y ++ option_to_list m) ∙ ap (max (greatest f x)) (greatest-append f y (option_to_list m)) in
-      let high : array_vec_len (get_or columns (i - 1) no_column) + 1 ≡ suc (length (timeline ts i)) = omega (arith, column_len i h) in
+      let high : length (get_or columns (i - 1) no_column) + 1 ≡ suc (length (timeline ts i)) = omega (arith, column_len i h) in
       let less = ap₂ max (latest-stamp i h (Some a) ok.node) (ap₂ max (latest-stamp i h b ok.partner) (cell-stamp i h m ok.held)) in
       ap₂ (cond (at_either a b i)) high (less ∙ sym most)
 
 -- ---- one more entry
 
-module _ (rows : List Row) (columns columns' : List (ArrayVec ℕ)) (a : ℕ) (b m : Option ℕ) (row : Row) (ok : Admitted (length rows) a b m)
+module _ (rows : List Row) (columns columns' : List (List ℕ)) (a : ℕ) (b m : Option ℕ) (row : Row) (ok : Admitted (length rows) a b m)
     (node : row.node ≡ a) (partner : row.partner ≡ b) (filed : Filed columns a b (length rows) columns')
     (counts : (i : ℕ) → i < max_nodes → get_or row.counts i 0 ≡ next_count rows columns a b (latest_of columns (Some a)) (latest_of columns b) m (i + 1)) where
   abbrev more : List Row
@@ -113,7 +112,7 @@ module _ (rows : List Row) (columns columns' : List (ArrayVec ℕ)) (a : ℕ) (b
   pub kept_more : Kept rows columns → Kept more columns'
   kept_more kept = ∥∥₁_elim kept ∥∥₁_prop (λ (ts, k). ∣ (asked a b m ∷ ts, keeps_more ts k) ∣₁)
 
-  entries-more : Kept rows columns → listed (held_row more) ((length rows) + 1) ≡ appended (asked a b m) (held_rows rows)
+  pub entries-more : Kept rows columns → listed (held_row more) ((length rows) + 1) ≡ appended (asked a b m) (held_rows rows)
   entries-more kept =
       let vs = held_rows rows in
       let rows' = more in
@@ -136,7 +135,7 @@ module _ (rows : List Row) (columns columns' : List (ArrayVec ℕ)) (a : ℕ) (b
 
 -- ---- what a clock answers
 
-module _ (n : ℕ) (rows : List Row) (columns : List (ArrayVec ℕ)) (small : n ≤ max_nodes) (kept : Kept rows columns) where
+module _ (n : ℕ) (rows : List Row) (columns : List (List ℕ)) (small : n ≤ max_nodes) (kept : Kept rows columns) where
   pub cell-tally : (e i : ℕ) → true ≡ (ltb e (length rows) && is_node n i) → cell rows e i ≡ tally (within (held_rows rows) e) (held_at (held_rows rows) i)
   cell-tally e i h = ∥∥₁_elim kept (ℕ_set _ _) (λ (ts, k).
       let (p, q) = and_parts (ltb e (length rows)) (is_node n i) (sym h) in
@@ -146,14 +145,14 @@ module _ (n : ℕ) (rows : List Row) (columns : List (ArrayVec ℕ)) (small : n 
   line_held i h = ∥∥₁_elim kept (is_set ℕ_set _ _) (λ (ts, k).
       k.filed i (node_up n i small h) ∙ rw (entries_kept rows columns ts k) (sym (held_timeline ts i)))
 
-  pub column-room : (i : ℕ) → i < max_nodes → array_vec_len (get_or columns i no_column) ≤ (length rows)
+  pub column-room : (i : ℕ) → i < max_nodes → length (get_or columns i no_column) ≤ (length rows)
   column-room i l =
       let back : i + 1 - 1 ≡ i = omega arith in
       ∥∥₁_elim kept le_prop (λ (ts, k). rw back at (column-low rows columns ts k (i + 1) (and_from _ _ (le-leb 1 (i + 1) (omega arith)) (le-leb (i + 1) max_nodes (omega arith)))))
 
 -- ---- no entries
 
-pub kept-none : (rows : List Row) (columns : List (ArrayVec ℕ)) → rows ≡ [] → ((i : ℕ) → i < max_nodes → (get_or columns i no_column).items ≡ []) → Kept rows columns
+pub kept-none : (rows : List Row) (columns : List (List ℕ)) → rows ≡ [] → ((i : ℕ) → i < max_nodes → (get_or columns i no_column) ≡ []) → Kept rows columns
 kept-none rows columns empty none = rw empty (∣ (
   [],
   record {

@@ -3,7 +3,6 @@ use Rattle.std.proofs.Common.{◌≡◌, ℕ, suc, ◌<◌, ◌≤◌, true, eqb
 use mathlib.Core.Logic.{∥∥₁_elim, ∥∥₁_prop}
 use Rattle.std.proofs.lemmas.Bool.Decides.{same_from_decides}
 use Rattle.std.proofs.lemmas.Bool.{cases_eq, eq-eqb, or_left, and_from, and_parts, le-leb, leb-true}
-use Rattle.arrayvec.specs.ArrayVec.{ArrayVec}
 use Rattle.causality.specs.Newest.{Mem}
 use Rattle.causality.specs.Entries.{Entry, at_either, timeline, past, at, stamp}
 use Rattle.causality.proofs.Newest.{entry-some, mem-entry, entry-kth, entry-order, numbers_in, numbers_descend}
@@ -35,7 +34,7 @@ own_kth ts x i m =
           ))
     ]
 
-module _ (rows : List Row) (columns : List (ArrayVec ℕ)) (ts : List Entry) (k : Keeps rows columns ts) where
+module _ (rows : List Row) (columns : List (List ℕ)) (ts : List Entry) (k : Keeps rows columns ts) where
   pub reaches_past : (e x : ℕ) → e < length rows → reaches rows e x ≡ past ts e x
   reaches_past e x l = same_from_decides _ _ (there, back) ((λ h. h), λ h. h)
     where
@@ -60,7 +59,7 @@ module _ (rows : List Row) (columns : List (ArrayVec ℕ)) (ts : List Entry) (k 
       ap (listed (held_row rows)) (sym k.size)
       ∙ entries_held ts (held_row rows) (λ e l. let (ps, is) = k.placed e (omega (arith, k.size)) in (ps, is, λ x. reaches_past e x (omega (arith, k.size))))
 
-module _ (n : ℕ) (rows : List Row) (columns : List (ArrayVec ℕ)) (kept : Kept rows columns) where
+module _ (n : ℕ) (rows : List Row) (columns : List (List ℕ)) (kept : Kept rows columns) where
   pub of_takes : OfTakes (rows_mean n rows)
   of_takes = ∥∥₁_elim kept ∥∥₁_prop (λ (ts, k). ∣ (ts, entries_kept rows columns ts k) ∣₁)
 

@@ -10,7 +10,6 @@
 --   Keeps, Kept         the rows and columns are those of given entries, of some entries
 --   next_count, Filed   what a take writes to the new row, and to the columns
 use Rattle.std.specs.Prelude.{◌≡◌, ℕ, ◌+◌, ◌-◌, ◌<◌, max, Bool, true, cond, ◌&&◌, List, [], ◌∷◌, length, get_or, replicate, Some, None, Option, nat_le, slice_index, slice_index_or, refl}
-use Rattle.arrayvec.specs.ArrayVec.{ArrayVec, array_vec_len}
 use Rattle.causality.specs.Newest.{entry}
 use Rattle.causality.specs.Entries.{Entry, at_either, newest, timeline, stamp}
 use Rattle.causality.specs.Limits.{max_nodes, is_node}
@@ -21,16 +20,16 @@ use Rattle.row_clock.specs.declared.parts.Row.{Row}
 abbrev pub no_row : Row
 no_row = record { node = 1; partner = None; counts = replicate max_nodes 0; wide = refl; placed = refl }
 
-abbrev pub no_column : ArrayVec ℕ
-no_column = record { items = [] }
+abbrev pub no_column : List ℕ
+no_column = []
 
 abbrev pub cell : List Row → ℕ → ℕ → ℕ
 cell rows e i = slice_index (get_or rows e no_row).counts (i - 1)
 
-abbrev pub line : ArrayVec ℕ → List ℕ
-line c = listed (λ k. slice_index c.items k) (array_vec_len c)
+abbrev pub line : List ℕ → List ℕ
+line c = listed (λ k. slice_index c k) (length c)
 
-abbrev pub line_of : List (ArrayVec ℕ) → ℕ → List ℕ
+abbrev pub line_of : List (List ℕ) → ℕ → List ℕ
 line_of columns i = line (slice_index_or columns (i - 1) no_column)
 
 -- ---- what rows mean
@@ -50,7 +49,7 @@ rows_mean n rows = record { nodes = n; entries = held_rows rows }
 
 -- ---- the entries of rows and columns
 
-pub record Keeps (rows : List Row) (columns : List (ArrayVec ℕ)) (ts : List Entry) : Type 0 where
+pub record Keeps (rows : List Row) (columns : List (List ℕ)) (ts : List Entry) : Type 0 where
   pub size : length ts ≡ length rows
   -- each row has the nodes of its entry
   pub placed : (e : ℕ) → e < length rows →
@@ -60,12 +59,12 @@ pub record Keeps (rows : List Row) (columns : List (ArrayVec ℕ)) (ts : List En
   -- each column is the timeline of its node
   pub filed : (i : ℕ) → is_node max_nodes i ≡ true → line_of columns i ≡ timeline ts i
 
-abbrev pub Kept : List Row → List (ArrayVec ℕ) → Type 0
+abbrev pub Kept : List Row → List (List ℕ) → Type 0
 Kept rows columns = ∥ ((ts : List Entry) × Keeps rows columns ts) ∥₁
 
 -- ---- the steps of a take
 
-abbrev pub latest_of : List (ArrayVec ℕ) → Option ℕ → Option ℕ
+abbrev pub latest_of : List (List ℕ) → Option ℕ → Option ℕ
 latest_of columns None = None
 latest_of columns (Some i) = newest (line_of columns i)
 
@@ -74,11 +73,11 @@ cell_of rows None i = 0
 cell_of rows (Some e) i = cell rows e i
 
 -- the count of a new entry at node i: at its own nodes one more than all there, elsewhere the greatest of its predecessors'
-abbrev pub next_count : List Row → List (ArrayVec ℕ) → ℕ → Option ℕ → Option ℕ → Option ℕ → Option ℕ → ℕ → ℕ
+abbrev pub next_count : List Row → List (List ℕ) → ℕ → Option ℕ → Option ℕ → Option ℕ → Option ℕ → ℕ → ℕ
 next_count rows columns a b x y z i =
-    cond (at_either a b i) (array_vec_len (get_or columns (i - 1) no_column) + 1) (max (cell_of rows x i) (max (cell_of rows y i) (cell_of rows z i)))
+    cond (at_either a b i) (length (get_or columns (i - 1) no_column) + 1) (max (cell_of rows x i) (max (cell_of rows y i) (cell_of rows z i)))
 
 -- entry e is appended to the columns of a and b
-abbrev pub Filed : List (ArrayVec ℕ) → ℕ → Option ℕ → ℕ → List (ArrayVec ℕ) → Type 0
+abbrev pub Filed : List (List ℕ) → ℕ → Option ℕ → ℕ → List (List ℕ) → Type 0
 Filed columns a b e columns' =
     (i : ℕ) → is_node max_nodes i ≡ true → line_of columns' i ≡ cond (at_either a b i) (e ∷ line_of columns i) (line_of columns i)

@@ -2,7 +2,6 @@
 #![tactic(auto)]
 
 ghost use Rattle.std.specs.Prelude.{◌≡◌, ℕ, ◌+◌, ◌<◌, ◌≤◌, true, false, length, slice_index, slice_index_or};
-ghost use Rattle.arrayvec.specs.ArrayVec.{array_vec_len};
 ghost use Rattle.causality.specs.Entries.{is};
 ghost use Rattle.causality.specs.Limits.{max_nodes, is_node};
 ghost use Rattle.clock.specs.Meaning.{max_entries, blank, if_given};
@@ -11,8 +10,8 @@ ghost use Rattle.row_clock.specs.Laws.{rows_lawful};
 
 mod parts;
 
-use arrayvec::ArrayVec;
 use clock::{Clock, ENTRIES, MAX_NODES, NODES, NewEntry, Predecessors, admits, is_node, knows};
+use logs::Log;
 use parts::{Column, Row};
 use std::array;
 
@@ -20,11 +19,11 @@ use std::array;
 #[derive(Drop)]
 pub struct RowClock {
     nodes: u16,
-    rows: ArrayVec<Row, ENTRIES>,
+    rows: Log<Row, ENTRIES>,
     columns: [Column; NODES],
     ghost long: { length columns ≡ max_nodes },
-    ghost within: { (array_vec_len rows ≤ max_entries) × (nodes ≤ max_nodes) },
-    ghost kept: { Kept rows.items columns },
+    ghost within: { (length rows ≤ max_entries) × (nodes ≤ max_nodes) },
+    ghost kept: { Kept rows columns },
 }
 
 /// Appends entry e to the columns of its nodes.
@@ -32,7 +31,7 @@ fn file(columns: &mut [Column; NODES], entry: NewEntry, e: u16)
     requires node { is_node max_nodes entry.node ≡ true }
     requires partner { if_given (is_node max_nodes) entry.partner ≡ true }
     requires apart { is entry.partner entry.node ≡ false }
-    requires room { (i : ℕ) → i < max_nodes → array_vec_len (slice_index_or columns.old i no_column) < max_entries }
+    requires room { (i : ℕ) → i < max_nodes → length (slice_index_or columns.old i no_column) < max_entries }
     ensures filed { Filed columns.old entry.node entry.partner e columns.new }
     ensures long { length columns.new ≡ length columns.old }
 {
@@ -46,16 +45,16 @@ impl RowClock {
     /// Sets n nodes and no entries.
     fn clear(&mut self, n: u16)
         requires { is_node max_nodes n ≡ true }
-        ensures { rows_mean self.new.nodes self.new.rows.items ≡ blank n }
+        ensures { rows_mean self.new.nodes self.new.rows ≡ blank n }
     {
         self.nodes = n;
         self.rows.clear();
-        self.columns = array::from_fn(|_| Column::new());
+        self.columns = array::from_fn(|_| Column::new(0));
     }
 
     /// How many entries there are.
     fn len(&self) -> u16
-        ensures { result ≡ array_vec_len self.now.rows }
+        ensures { result ≡ length self.now.rows }
     {
         self.rows.len() as u16
     }
@@ -71,7 +70,7 @@ impl RowClock {
     /// The count of entry e at node i, 0 if there is none.
     fn cell(&self, e: Option<u16>, i: u16) -> u16
         requires { is_node max_nodes i ≡ true }
-        ensures { result ≡ cell_of self.now.rows.items e i }
+        ensures { result ≡ cell_of self.now.rows e i }
     {
         e.and_then(|e| self.rows.get(e as usize))
             .map_or(0, |row| row.counts[i as usize - 1])
@@ -80,7 +79,7 @@ impl RowClock {
     /// The count at node i of a new entry after its immediate predecessors.
     fn next_count(&self, entry: NewEntry, before: Predecessors, i: u16) -> u16
         requires { is_node max_nodes i ≡ true }
-        ensures { result ≡ next_count self.now.rows.items self.now.columns entry.node entry.partner before.own before.other entry.prior i }
+        ensures { result ≡ next_count self.now.rows self.now.columns entry.node entry.partner before.own before.other entry.prior i }
     {
         if entry.stands(i) {
             self.columns[i as usize - 1].len() as u16 + 1
@@ -93,28 +92,28 @@ impl RowClock {
 
     /// Its counts at all nodes.
     fn next_counts(&self, entry: NewEntry, before: Predecessors) -> [u16; NODES]
-        ensures { (i : ℕ) → i < max_nodes → slice_index result i ≡ next_count self.now.rows.items self.now.columns entry.node entry.partner before.own before.other entry.prior (i + 1) }
+        ensures { (i : ℕ) → i < max_nodes → slice_index result i ≡ next_count self.now.rows self.now.columns entry.node entry.partner before.own before.other entry.prior (i + 1) }
     {
         array::from_fn(|i| self.next_count(entry, before, i as u16 + 1))
     }
 }
 
 impl Clock for RowClock {
-    ghost means = { λ s. rows_mean s.nodes s.rows.items };
+    ghost means = { λ s. rows_mean s.nodes s.rows };
 
-    ghost own = { λ s. (rows_lawful s.nodes s.rows.items s.columns s.kept).own };
+    ghost own = { λ s. (rows_lawful s.nodes s.rows s.columns s.kept).own };
 
-    ghost through = { λ s. (rows_lawful s.nodes s.rows.items s.columns s.kept).through };
+    ghost through = { λ s. (rows_lawful s.nodes s.rows s.columns s.kept).through };
 
-    ghost earliest = { λ s. (rows_lawful s.nodes s.rows.items s.columns s.kept).earliest };
+    ghost earliest = { λ s. (rows_lawful s.nodes s.rows s.columns s.kept).earliest };
 
-    ghost no_higher = { λ s. (rows_lawful s.nodes s.rows.items s.columns s.kept).no_higher };
+    ghost no_higher = { λ s. (rows_lawful s.nodes s.rows s.columns s.kept).no_higher };
 
     fn new() -> RowClock {
         RowClock {
             nodes: 1,
-            rows: ArrayVec::new(),
-            columns: array::from_fn(|_| Column::new()),
+            rows: Log::new(Row::default()),
+            columns: array::from_fn(|_| Column::new(0)),
         }
     }
 

@@ -3,8 +3,8 @@
 ghost use Rattle.std.specs.Prelude.{◌≡◌, true, length};
 ghost use Rattle.causality.specs.Limits.{max_nodes, is_node};
 
-use arrayvec::ArrayVec;
 use clock::{ENTRIES, NODES};
+use logs::Log;
 
 /// An entry: its node, the second node of a meet, and how many entries of each node lie in its past.
 #[derive(Clone, Copy)]
@@ -27,4 +27,4 @@ impl Default for Row {
 }
 
 /// A node: the numbers of its entries, from the oldest.
-pub type Column = ArrayVec<u16, ENTRIES>;
+pub type Column = Log<u16, ENTRIES>;

@@ -8,6 +8,7 @@ ghost use Rattle.correlator.specs.Told.{history};
 ghost use Rattle.history.specs.Answers.{Compared, Obeys, OrderOf, reason, stamped};
 ghost use Rattle.history.specs.Calls.{Call, refusal};
 ghost use Rattle.history.specs.History.{named};
+ghost use Rattle.history.specs.Lawful.{Lawful};
 
 use super::Correlator;
 use causality::{CausalOrder, Place, from_last};
@@ -15,13 +16,27 @@ use clock::Clock;
 use counting::write_counts;
 use history::{Refusal, Stage};
 
-/// Which of the two timestamps of an event.
+/// The number of a forward timestamp.
+pub const FORWARD: u16 = 1;
+
+/// The number of a reverse timestamp.
+pub const REVERSE: u16 = 2;
+
+/// Which of the two timestamps of an event, with its number.
 #[derive(Clone, Copy, PartialEq, Eq, Debug)]
 pub enum Direction {
-    /// 1: it counts the event and those that happened before it.
-    Forward,
-    /// 2: it counts the event and those that happened after it.
-    Reverse,
+    /// It counts the event and those that happened before it.
+    Forward = 1,
+    /// It counts the event and those that happened after it.
+    Reverse = 2,
+}
+
+impl From<Direction> for u16 {
+    ghost from_gives = { λ d n. n ≡ direction_number d };
+
+    fn from(direction: Direction) -> u16 {
+        direction as u16
+    }
 }
 
 impl TryFrom<u16> for Direction {
@@ -31,8 +46,8 @@ impl TryFrom<u16> for Direction {
 
     fn try_from(number: u16) -> Result<Direction, Refusal> {
         match number {
-            1 => Ok(Direction::Forward),
-            2 => Ok(Direction::Reverse),
+            FORWARD => Ok(Direction::Forward),
+            REVERSE => Ok(Direction::Reverse),
             _ => Err(Refusal::BadSelector),
         }
     }
@@ -46,6 +61,14 @@ struct Found {
 }
 
 impl<F: Clock, R: Clock> Correlator<F, R> {
+    /// How many events there are. Whatever it was told, its history is lawful.
+    pub fn count(&self) -> u16
+        ensures count { result ≡ length (history self.now).events }
+        ensures lawful { Lawful (history self.now) }
+    {
+        self.trace.count()
+    }
+
     /// How the event at p stands to the event at q.
     pub fn order(&self, p: Place, q: Place) -> Result<CausalOrder, Refusal>
         ensures { Obeys (history self.now) (Call.order p q) result (OrderOf (history self.now) p q) (history self.now) }

@@ -39,7 +39,7 @@ impl Trace {
 
     // One more event may be held.
     fn check_room(&self) -> Result<(), Refusal>
-        ensures { reason result ≡ first_that ((nat_le max_events (length self.now.events.items), Full) ∷ []) }
+        ensures { reason result ≡ first_that ((nat_le max_events (length self.now.events), Full) ∷ []) }
     {
         if self.events.is_full() {
             Err(Refusal::Full)

@@ -9,9 +9,9 @@ ghost use Rattle.history.specs.History.{idle};
 ghost use Rattle.records.specs.Messages.{sent_of};
 
 use super::Trace;
-use arrayvec::ArrayVec;
 use causality::Event;
 use history::Stage;
+use logs::Log;
 use records::{Messages, Sent};
 
 impl Trace {
@@ -23,7 +23,7 @@ impl Trace {
         Trace {
             stage: Stage::Idle,
             nodes: 1,
-            events: ArrayVec::new(),
+            events: Log::new(Event::default()),
             sent: Messages::new(),
         }
     }
@@ -41,7 +41,7 @@ impl Trace {
 
     /// How many events there are.
     pub fn count(&self) -> u16
-        ensures { result ≡ length self.now.events.items }
+        ensures { result ≡ length self.now.events }
     {
         self.events.len() as u16
     }
@@ -56,10 +56,10 @@ impl Trace {
 
     /// Puts an event behind the others, and notes what it sends or receives.
     pub fn push(&mut self, event: Event)
-        requires room { length self.old.events.items < 512 }
+        requires room { length self.old.events < 512 }
         requires fresh { (m : ℕ) → sends event ≡ Some m → sent_of self.old.sent m ≡ None }
         ensures grown { traced self.new ≡ with_event (traced self.old) event }
-        ensures sets { (m : ℕ) → sent_of self.new.sent m ≡ noted event (length self.old.events.items) (sent_of self.old.sent) m }
+        ensures sets { (m : ℕ) → sent_of self.new.sent m ≡ noted event (length self.old.events) (sent_of self.old.sent) m }
     {
         let number = self.count();
         note(&mut self.sent, event, number);

@@ -1,6 +1,9 @@
 //! Looking up, adding and marking messages.
 
-ghost use Rattle.std.specs.Prelude.{◌≡◌, ℕ, ◌+◌, ◌<◌, if◌then◌else◌, Some, None, nat_eq, length};
+ghost use Rattle.std.specs.Ordering.{nat_cmp};
+ghost use Rattle.std.specs.Prelude.{◌≡◌, ℕ, ◌+◌, ◌<◌, ◌≤◌, if◌then◌else◌, Some, None, nat_eq, length};
+ghost use Rattle.table.specs.Tables.{Rising};
+ghost use Rattle.records.specs.declared.messages.Sent.{Sent};
 ghost use Rattle.records.specs.Messages.{received, sent_of};
 
 use super::{MAX_MESSAGES, Messages, Sent};
@@ -26,6 +29,15 @@ impl Messages {
         ensures len { length self.new ≡ 0 }
     {
         self.len = 0;
+    }
+
+    /// How many messages there are: 512 at most, of rising numbers.
+    pub fn count(&self) -> usize
+        ensures len { result ≡ length self.now }
+        ensures few { length self.now ≤ 512 }
+        ensures rises { Rising nat_cmp (λ (s : Sent). s.message) self.now }
+    {
+        self.len
     }
 
     /// The message of this number, if it was sent.

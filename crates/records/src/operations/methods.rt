@@ -1,6 +1,9 @@
 //! Looking up and adding operations.
 
-ghost use Rattle.std.specs.Prelude.{◌≡◌, ℕ, ◌+◌, ◌<◌, if◌then◌else◌, Some, None, MatchOption, nat_eq, length};
+ghost use Rattle.std.specs.Ordering.{nat_cmp};
+ghost use Rattle.std.specs.Prelude.{◌≡◌, ℕ, ◌+◌, ◌<◌, ◌≤◌, if◌then◌else◌, Some, None, MatchOption, nat_eq, length};
+ghost use Rattle.table.specs.Tables.{Rising};
+ghost use Rattle.records.specs.declared.operations.Operation.{Operation};
 ghost use Rattle.records.specs.Operations.{FindsOperation, SelectsCut, cut_of, row_of, operation_at, operation_of};
 
 use super::{Cut, Cuts, MAX_MEMBERS, MAX_OPERATIONS, Operation, Operations, UnknownCut};
@@ -77,9 +80,11 @@ impl Operations {
         self.len = 0;
     }
 
-    /// How many operations there are.
+    /// How many operations there are: 32 at most, of rising names.
     pub fn count(&self) -> usize
-        ensures { result ≡ length self.now }
+        ensures len { result ≡ length self.now }
+        ensures few { length self.now ≤ 32 }
+        ensures rises { Rising nat_cmp (λ (o : Operation). o.name) self.now }
     {
         self.len
     }

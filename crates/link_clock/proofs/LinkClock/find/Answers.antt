@@ -16,7 +16,7 @@ cast (Some p) all answer step is low = step (low p.0 (sym is)) ∙ is
 
 pub returns : goal.returns
 returns c =
-    let links = c.args.self.now.links.items in
+    let links = c.args.self.now.links in
     let i = c.args.i in
     let numbered = YieldsList-from_enumerate (YieldsList-at c.enumerate.ensures.source (YieldsList-from_slice links (c.iter.ensures.rest ∙ c.deref.ensures.0))) c.enumerate.ensures.count in
     let nth = nth_from_yields_List c.nth.result _ _ c.nth.ensures.ran

@@ -4,4 +4,4 @@ use Rattle.link_clock.specs.Links.{Walked}
 use Rattle.link_clock.proofs.LinkClock.walk.Given as goal
 
 abbrev pub invariant-loop-x : goal.invariant-loop-x
-invariant-loop-x l = Walked l.self.links.items l.e l.i l.marks (l.x + 1) l.count
+invariant-loop-x l = Walked l.self.links l.e l.i l.marks (l.x + 1) l.count

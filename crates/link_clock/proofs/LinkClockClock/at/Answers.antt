@@ -8,4 +8,4 @@ use Rattle.link_clock.proofs.LinkClockClock.at.Goals as goal
 pub returns : goal.returns
 returns c =
     let s = c.args.self.now in
-    c.find.ensures ∙ sym (cond-true _ _ _ (sym c.if-not-is_node.ensures)) ∙ sym (meanings_answer s.nodes (all_takes s.links.items) 0 c.args.i c.args.k).1
+    c.find.ensures ∙ sym (cond-true _ _ _ (sym c.if-not-is_node.ensures)) ∙ sym (meanings_answer s.nodes (all_takes s.links) 0 c.args.i c.args.k).1

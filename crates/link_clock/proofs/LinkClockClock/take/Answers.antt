@@ -13,21 +13,21 @@ use Rattle.link_clock.proofs.LinkClockClock.take.Goals as goal
 pub returns-then-not-admits : goal.returns-then-not-admits
 returns-then-not-admits c =
     let s = c.args.self.now in
-    let (same, none) = take_refused (links_mean s.nodes s.links.items) (length s.links.items) (length_held s.links.items (length s.links.items)) c.args.entry.node c.args.entry.partner c.args.entry.prior (rw c.len-e.ensures at c.if-not-admits.ensures) in
+    let (same, none) = take_refused (links_mean s.nodes s.links) (length s.links) (length_held s.links (length s.links)) c.args.entry.node c.args.entry.partner c.args.entry.prior (rw c.len-e.ensures at c.if-not-admits.ensures) in
     record { after = same; value = none }
 
-module _ (s : LinkClock) (a : ℕ) (b m : Option ℕ) (h : true ≡ admits s.nodes (length s.links.items) a b m) where
-  ok : Admitted (length s.links.items) a b m
-  ok = admitted s.nodes (length s.links.items) a b m s.within.1 (sym h)
+module _ (s : LinkClock) (a : ℕ) (b m : Option ℕ) (h : true ≡ admits s.nodes (length s.links) a b m) where
+  ok : Admitted (length s.links) a b m
+  ok = admitted s.nodes (length s.links) a b m s.within.1 (sym h)
 
   -- one more link
-  grown : (own other : Option ℕ) (latest : List (Option ℕ)) (links : List Link) → own ≡ latest_of s.latest (Some a) → other ≡ latest_of s.latest b → Noted s.latest a b (length s.links.items) latest →
-      links ≡ s.links.items ++ (record { entry = record { node = a; partner = b; prior = m }; before = record { own = own; other = other } } ∷ []) →
+  grown : (own other : Option ℕ) (latest : List (Option ℕ)) (links : List Link) → own ≡ latest_of s.latest (Some a) → other ≡ latest_of s.latest b → Noted s.latest a b (length s.links) latest →
+      links ≡ s.links ++ (record { entry = record { node = a; partner = b; prior = m }; before = record { own = own; other = other } } ∷ []) →
       Kept links latest
-      × (links_mean s.nodes links ≡ taken (links_mean s.nodes s.links.items) a b m)
-      × (Some (length s.links.items) ≡ number (links_mean s.nodes s.links.items) a b m)
+      × (links_mean s.nodes links ≡ taken (links_mean s.nodes s.links) a b m)
+      × (Some (length s.links) ≡ number (links_mean s.nodes s.links) a b m)
   grown own other latest links p q noted is =
-      let held = s.links.items in
+      let held = s.links in
       let len = length held in
       let (after, value) = take-accepted (links_mean s.nodes held) len (length_held held len) a b m h in
       rw is (
@@ -41,7 +41,7 @@ invariant_of-self c =
     let s = c.args.self.now in
     let h = rw c.len-e.ensures at c.if-not-admits.ensures in
     let k = ok s c.args.entry.node c.args.entry.partner c.args.entry.prior h in
-    let (kept, _, _) = grown s c.args.entry.node c.args.entry.partner c.args.entry.prior h c.latest_at.result c.latest_at-2.result c.note.new.latest c.push.new.self.items
+    let (kept, _, _) = grown s c.args.entry.node c.args.entry.partner c.args.entry.prior h c.latest_at.result c.latest_at-2.result c.note.new.latest c.push.new.self
     c.latest_at.ensures c.latest_at-2.ensures (rw c.len-e.ensures at c.note.ensures.noted) c.push.ensures.items in
     record {
       long = c.note.ensures.long ∙ s.long;
@@ -52,6 +52,6 @@ invariant_of-self c =
 pub returns : goal.returns
 returns c =
     let s = c.args.self.now in
-    let (_, after, value) = grown s c.args.entry.node c.args.entry.partner c.args.entry.prior (rw c.len-e.ensures at c.if-not-admits.ensures) c.latest_at.result c.latest_at-2.result c.note.new.latest c.push.new.self.items
+    let (_, after, value) = grown s c.args.entry.node c.args.entry.partner c.args.entry.prior (rw c.len-e.ensures at c.if-not-admits.ensures) c.latest_at.result c.latest_at-2.result c.note.new.latest c.push.new.self
     c.latest_at.ensures c.latest_at-2.ensures (rw c.len-e.ensures at c.note.ensures.noted) c.push.ensures.items in
     record { after = after; value = ap Some c.len-e.ensures ∙ value }

@@ -12,7 +12,7 @@ returns c =
     let s = c.args.self.now in
     let e = c.args.e in
     let i = c.args.i in
-    let rows = s.rows.items in
+    let rows = s.rows in
     let len = length rows in
     let same : IfSome c.then.result (λ n. n ≡ cell rows e i) = search rules in
     count_is (rows_mean s.nodes rows) len (length-listed (held_row rows) len) e i (cell rows e i) c.then.result

@@ -5,7 +5,6 @@ use Rattle.clock.specs.Meaning.{Held, Meaning, admits, taken, number}
 use Rattle.clock.proofs.Arrays.{length-listed, Admitted, admitted}
 use Rattle.clock.proofs.Takes.{take_refused, take-accepted}
 use Rattle.row_clock.specs.declared.parts.Row.{Row}
-use Rattle.arrayvec.specs.ArrayVec.{ArrayVec}
 use Rattle.row_clock.specs.declared.RowClock.{RowClock}
 use Rattle.row_clock.specs.Rows.{held_row, rows_mean, Kept, latest_of, next_count, Filed}
 use Rattle.row_clock.proofs.Rows.{column-room, kept_more, held_more}
@@ -14,22 +13,22 @@ use Rattle.row_clock.proofs.RowClockClock.take.Goals as goal
 pub returns-then-not-admits : goal.returns-then-not-admits
 returns-then-not-admits c =
     let s = c.args.self.now in
-    let (same, none) = take_refused (rows_mean s.nodes s.rows.items) (length s.rows.items) (length-listed (held_row s.rows.items) (length s.rows.items)) c.args.entry.node c.args.entry.partner c.args.entry.prior (rw c.len-e.ensures at c.if-not-admits.ensures) in
+    let (same, none) = take_refused (rows_mean s.nodes s.rows) (length s.rows) (length-listed (held_row s.rows) (length s.rows)) c.args.entry.node c.args.entry.partner c.args.entry.prior (rw c.len-e.ensures at c.if-not-admits.ensures) in
     record { after = same; value = none }
 
-module _ (s : RowClock) (a : ℕ) (b m : Option ℕ) (h : true ≡ admits s.nodes (length s.rows.items) a b m) where
-  ok : Admitted (length s.rows.items) a b m
-  ok = admitted s.nodes (length s.rows.items) a b m s.within.1 (sym h)
+module _ (s : RowClock) (a : ℕ) (b m : Option ℕ) (h : true ≡ admits s.nodes (length s.rows) a b m) where
+  ok : Admitted (length s.rows) a b m
+  ok = admitted s.nodes (length s.rows) a b m s.within.1 (sym h)
 
   -- one more row
-  grown : (x y : Option ℕ) (row : Row) (rows : List Row) (columns : List (ArrayVec ℕ)) → x ≡ latest_of s.columns (Some a) → y ≡ latest_of s.columns b → row.node ≡ a → row.partner ≡ b →
-      ((i : ℕ) → i < max_nodes → get_or row.counts i 0 ≡ next_count s.rows.items s.columns a b x y m (i + 1)) → Filed s.columns a b (length s.rows.items) columns →
-      rows ≡ s.rows.items ++ (row ∷ []) →
+  grown : (x y : Option ℕ) (row : Row) (rows : List Row) (columns : List (List ℕ)) → x ≡ latest_of s.columns (Some a) → y ≡ latest_of s.columns b → row.node ≡ a → row.partner ≡ b →
+      ((i : ℕ) → i < max_nodes → get_or row.counts i 0 ≡ next_count s.rows s.columns a b x y m (i + 1)) → Filed s.columns a b (length s.rows) columns →
+      rows ≡ s.rows ++ (row ∷ []) →
       Kept rows columns
-      × (rows_mean s.nodes rows ≡ taken (rows_mean s.nodes s.rows.items) a b m)
-      × (Some (length s.rows.items) ≡ number (rows_mean s.nodes s.rows.items) a b m)
+      × (rows_mean s.nodes rows ≡ taken (rows_mean s.nodes s.rows) a b m)
+      × (Some (length s.rows) ≡ number (rows_mean s.nodes s.rows) a b m)
   grown x y row rows columns p q node partner counts filed is =
-      let held = s.rows.items in
+      let held = s.rows in
       let len = length held in
       let counts' : (i : ℕ) → i < max_nodes → get_or row.counts i 0 ≡ next_count held s.columns a b (latest_of s.columns (Some a)) (latest_of s.columns b) m (i + 1) =
       rw (← p, ← q) counts in
@@ -45,14 +44,14 @@ pub file-requires : goal.file-requires
 file-requires c =
     let s = c.args.self.now in
     let k = ok s c.args.entry.node c.args.entry.partner c.args.entry.prior (rw c.len-e.ensures at c.if-not-admits.ensures) in
-    record { node = k.node; partner = k.partner; apart = k.apart; room = λ i l. omega (arith, column-room s.nodes s.rows.items s.columns s.within.1 s.kept i l, k.room) }
+    record { node = k.node; partner = k.partner; apart = k.apart; room = λ i l. omega (arith, column-room s.nodes s.rows s.columns s.within.1 s.kept i l, k.room) }
 
 pub invariant_of-self : goal.invariant_of-self
 invariant_of-self c =
     let s = c.args.self.now in
     let h = rw c.len-e.ensures at c.if-not-admits.ensures in
     let k = ok s c.args.entry.node c.args.entry.partner c.args.entry.prior h in
-    let (kept, _, _) = grown s c.args.entry.node c.args.entry.partner c.args.entry.prior h c.latest.result c.latest-2.result _ c.push.new.self.items c.file.new.columns c.latest.ensures c.latest-2.ensures
+    let (kept, _, _) = grown s c.args.entry.node c.args.entry.partner c.args.entry.prior h c.latest.result c.latest-2.result _ c.push.new.self c.file.new.columns c.latest.ensures c.latest-2.ensures
     refl refl c.next_counts-counts.ensures (rw c.len-e.ensures at c.file.ensures.filed) c.push.ensures.items in
     record {
       long = c.file.ensures.long ∙ s.long;
@@ -63,6 +62,6 @@ invariant_of-self c =
 pub returns : goal.returns
 returns c =
     let s = c.args.self.now in
-    let (_, after, value) = grown s c.args.entry.node c.args.entry.partner c.args.entry.prior (rw c.len-e.ensures at c.if-not-admits.ensures) c.latest.result c.latest-2.result _ c.push.new.self.items c.file.new.columns
+    let (_, after, value) = grown s c.args.entry.node c.args.entry.partner c.args.entry.prior (rw c.len-e.ensures at c.if-not-admits.ensures) c.latest.result c.latest-2.result _ c.push.new.self c.file.new.columns
     c.latest.ensures c.latest-2.ensures refl refl c.next_counts-counts.ensures (rw c.len-e.ensures at c.file.ensures.filed) c.push.ensures.items in
     record { after = after; value = ap Some c.len-e.ensures ∙ value }

@@ -5,7 +5,7 @@ use Rattle.gathering.specs.Absent.{earliest_associative}
 use Rattle.gathering.proofs.Made.{made_map}
 use Rattle.counting.specs.Counting.{count_row, or_zeros}
 use Rattle.counting.proofs.Joint.{op}
-use Rattle.summaries.specs.Rows.{own_row_of, row_from_last}
+use Rattle.summaries.specs.Rows.{own_row_of, row_from_last, length-row}
 use Rattle.summaries.proofs.Indexes.{present-earliest, present-greatest}
 use Rattle.summaries.proofs.Summing.{at-past, at_future, at_own, at_end}
 use Rattle.summaries.proofs.summary.summarize.Goals as goal
@@ -40,7 +40,9 @@ returns-clause-summed g c vs n x xs t members held =
     let (ahead, ahead_each, near, far) = c.bounds-3.ensures in
     let own_is = made_map _ (own_row_of μ es) ms own own_each (λ x y h. search rules) in
     let whole_is = made_map _ (count_row μ) ms whole whole_each (λ x y h. search rules) in
-    let ahead_is = made_map _ (row_from_last ρ (length es)) ms ahead ahead_each (λ x y h. search rules) in
+    let all : min (length es) 65535 ≡ length es = omega (arith, t.few) in
+    let ends : c.lengths-ends.result ≡ length-row μ ρ (length es) = c.lengths-ends.ensures ∙ ap (length-row μ ρ) all in
+    let ahead_is = made_map _ (row_from_last ρ (min (length es) 65535)) ms ahead ahead_each (λ x y h. search rules) ∙ ap (λ (k : ℕ). map (row_from_last ρ k) ms) all in
     record {
       members = front c.copy_from_slice.new.self _ ms c.copy_from_slice.ensures.after ∙ held_are;
       held = held;
@@ -48,6 +50,6 @@ returns-clause-summed g c vs n x xs t members held =
       lasts = λ i node. at_own vs n μ ρ es t x xs held i node max most ms held_are c.bounds.result.1 max present-greatest (bound max most (own_row_of μ es) ms own _ own_is last);
       joint_pasts = λ i node. at-past vs n μ ρ es t x xs held i node min least ms held_are c.bounds-2.result.0 (bound min least (count_row μ) ms whole _ whole_is joint_past);
       whole_pasts = λ i node. at-past vs n μ ρ es t x xs held i node max most ms held_are c.bounds-2.result.1 (bound max most (count_row μ) ms whole _ whole_is whole_past);
-      first_reaches = λ i node. at_end vs n μ ρ es t x xs held i node c.lengths-ends.result c.bounds-3.result.1 c.from_end.result _ c.lengths-ends.ensures (at_future vs n μ ρ es t x xs held i node max most ms held_are c.bounds-3.result.1 (bound max most (row_from_last ρ (length es)) ms ahead _ ahead_is far)) c.from_end.ensures;
-      joint_reaches = λ i node. at_end vs n μ ρ es t x xs held i node c.lengths-ends.result c.bounds-3.result.0 c.from_end-2.result _ c.lengths-ends.ensures (at_future vs n μ ρ es t x xs held i node min least ms held_are c.bounds-3.result.0 (bound min least (row_from_last ρ (length es)) ms ahead _ ahead_is near)) c.from_end-2.ensures;
+      first_reaches = λ i node. at_end vs n μ ρ es t x xs held i node c.lengths-ends.result c.bounds-3.result.1 c.from_end.result _ ends (at_future vs n μ ρ es t x xs held i node max most ms held_are c.bounds-3.result.1 (bound max most (row_from_last ρ (length es)) ms ahead _ ahead_is far)) c.from_end.ensures;
+      joint_reaches = λ i node. at_end vs n μ ρ es t x xs held i node c.lengths-ends.result c.bounds-3.result.0 c.from_end-2.result _ ends (at_future vs n μ ρ es t x xs held i node min least ms held_are c.bounds-3.result.0 (bound min least (row_from_last ρ (length es)) ms ahead _ ahead_is near)) c.from_end-2.ensures;
     }
