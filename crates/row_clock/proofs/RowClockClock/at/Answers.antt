@@ -18,7 +18,7 @@ returns c =
     let some : 1 ≤ c.args.k = search rules in
     let got = c.copied.ensures ∙ copied_is c.deref.result.now c.in_ok-place.place c.get.result c.get.ensures.lookup in
     let column = get_or_default s.columns (c.args.i - 1) c.index-self-i.result no_column (omega (arith, s.long, s.within)) in
-    got ∙ ap₂ slice_get (c.deref.ensures.0 ∙ ap (λ (d : List ℕ). d) column) place
+    got ∙ ap₂ slice_get (c.deref.ensures.0 ∙ column) place
     ∙ kth_is _ c.args.k some
     ∙ ap (λ (l : List ℕ). kth l c.args.k) (line_held s.nodes s.rows s.columns s.within.1 s.kept c.args.i has)
     ∙ sym (cond-true _ _ _ has)
